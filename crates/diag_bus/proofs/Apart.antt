@@ -16,7 +16,7 @@ pub none_is : {X : Type 0} (o : Option X) → is_some o ≡ false → o ≡ None
 none_is None e = refl
 none_is (Some x) e = cc
 
--- a frame beside the bytes that are expected at its place
+-- a frame beside the bytes that are expected at its index
 abbrev pub differs_by : Recorded → Option (List ℕ) → Difference
 differs_by frame wanted = record { line = frame.line; sent = frame.bytes; expected = wanted }
 
@@ -35,7 +35,7 @@ difference-other frame bytes frames others other =
 
 module _ (frame : Recorded) (bytes : List ℕ) (ahead : List Recorded) (behind : List (List ℕ)) (recorded : List Recorded) (expected : List (List ℕ))
     (part : Part (frame ∷ ahead) (bytes ∷ behind) recorded expected) where
-  -- the two frames at one place are equal
+  -- the two frames at one index are equal
   pub part_on : frame.bytes ≡ bytes → Part ahead behind recorded expected
   part_on same = record {
     both = part.both ++ frame ∷ [];

@@ -7,8 +7,8 @@ use Rattle.std.specs.Prelude.{◌==◌, count_by, replicate}
 use Rattle.std.specs.List.{flat_map}
 use Rattle.std.specs.Option.{option_to_list}
 use Rattle.diag_can.specs.Log.{silence, waited}
-use Rattle.diag_can.specs.declared.bus.BusLine.{BusLine}
-use Rattle.diag_can.specs.declared.bus.BusLine.TheVariants as line
+use Rattle.diag_can.specs.declared.bus_line.BusLine.{BusLine}
+use Rattle.diag_can.specs.declared.bus_line.BusLine.TheVariants as line
 use Rattle.diag_can.specs.declared.fault.LineFault.{LineFault}
 use Rattle.diag_can.specs.declared.frame.Event.{Event}
 use Rattle.diag_can.specs.declared.frame.Event.TheVariants.{Physical, Functional, Ticks}

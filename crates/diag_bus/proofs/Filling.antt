@@ -18,9 +18,9 @@ use Rattle.diag_port.specs.declared.port.Port.{Port}
 use Rattle.diag_port.specs.Port.{PortState, port_of, port_quiet}
 use Rattle.diag_world.specs.Server.{ServerState, ServerView, Settled, quiet_of, server_of}
 use Rattle.diag_world.proofs.Worlds.{set_cases}
-use Rattle.diag_bus.specs.Batch.{IsRest, SameShape, lists_of}
+use Rattle.diag_bus.specs.Node.{IsRest, SameShape, lists_of}
 use Rattle.diag_bus.specs.declared.node.Node.{Node}
-use Rattle.diag_bus.specs.Requests.{AreFilled, filled_at}
+use Rattle.diag_bus.specs.Filled.{AreFilled, filled_at}
 use Rattle.diag_bus.specs.Text.{drawn_for, drawn_text, gathered, line_of, own_text, time_of}
 use Rattle.diag_bus.specs.declared.clock.Start.{Start}
 use Rattle.diag_bus.specs.declared.filled.Filled.{Filled}
@@ -113,7 +113,7 @@ rest_after old new who e asked more rest q rest' settled is least known =
     let now : quiet_of (map port_of new.ports) ≡ quiet_of (slice_set before (who - 1) moved.after) = ap quiet_of moved.set in
     omega (arith, least, known, here, most, now)
 
--- frames were added to the list at this place
+-- frames were added to the list at this index
 pub shape_after : (old new : Node) (i : ℕ) (list : Vec Sent Global) (is_empty : Bool) → length new.server.ports ≡ length old.server.ports
     → i < length old.drawn.lists.items
     → new.drawn.lists.items ≡ slice_set old.drawn.lists.items i list
@@ -130,7 +130,7 @@ shape_after old new i list is_empty ports within set filled tested rest =
       rest = rest;
     }
 
--- the list at this place is as it was
+-- the list at this index is as it was
 pub shape_same : (old new : Node) (i : ℕ) (list before : Vec Sent Global) → length new.server.ports ≡ length old.server.ports
     → new.drawn.lists.items ≡ slice_set old.drawn.lists.items i list
     → before ≡ get_or old.drawn.lists.items i before → list.items ≡ before.items → new.drawn.filled ≡ old.drawn.filled

@@ -14,16 +14,16 @@ use Rattle.diag_desk.specs.Text.{ticks_of}
 use Rattle.diag_desk.specs.declared.entry.Entry.{Entry}
 use Rattle.diag_port.specs.Standing.{HasKept}
 use Rattle.diag_world.specs.Server.{ServerState, ServerView, Serves, Settled, closing_time, server_of}
-use Rattle.diag_bus.specs.Batch.{Gave, IsRest, Lasts, OneSentIn, SameShape, lists_of}
+use Rattle.diag_bus.specs.Node.{Gave, IsRest, Lasts, OneSentIn, SameShape, lists_of}
 use Rattle.diag_bus.specs.Sink.{Enters, journal_of}
-use Rattle.diag_bus.specs.Requests.{filled_at}
+use Rattle.diag_bus.specs.Filled.{filled_at}
 use Rattle.diag_bus.specs.declared.filled.Filled.{Filled}
 use Rattle.diag_bus.specs.declared.node.Node.{Node}
-use Rattle.diag_bus.proofs.Batches.{clock_told, drew_more}
+use Rattle.diag_bus.proofs.Nodes.{clock_told, drew_more}
 use Rattle.diag_bus.proofs.Filling.{ports_moved, ports_same, rest_stays, shape_after, shape_same}
 use Rattle.diag_bus.proofs.Paces.{sent_one}
 
--- the node with this list at a place
+-- the node with this list at an index
 abbrev pub node_with : Node → ServerView → ℕ → Vec Sent Global → Filled → ℕ → Node
 node_with old server i list filled rest = record {
   server = server;
@@ -31,7 +31,7 @@ node_with old server i list filled rest = record {
   rest = rest;
 }
 
--- the list of the tester `who` stands at its place i in the line
+-- the list of the tester `who` stands at its index i in the line
 pub record IsListAt (old : Node) (who i : ℕ) (list : Vec Sent Global) : Type 0 where
   pub is : who ≡ i + 1
   pub within : i < length old.drawn.lists.items

@@ -1,4 +1,4 @@
-pub mod Batches
+pub mod Nodes
 pub mod Clocks
 pub mod Apart
 pub mod Ends

@@ -6,7 +6,7 @@ use Rattle.std.specs.List.{filter_map, flat_map, reduce}
 use Rattle.std.specs.Prelude.{slice_get}
 use Rattle.diag_can.specs.Reading.{later}
 use Rattle.diag_can.proofs.Reading.{reduce-option}
-use Rattle.diag_can.specs.declared.bus.BusLine.{BusLine}
+use Rattle.diag_can.specs.declared.bus_line.BusLine.{BusLine}
 use Rattle.diag_can.specs.declared.frame.Event.{Event}
 use Rattle.diag_tp.specs.declared.sent.Sent.{Sent}
 use Rattle.diag_setup.specs.declared.raw.RawSetup.{RawSetup}
@@ -15,8 +15,10 @@ use Rattle.diag_desk.specs.declared.entry.Entry.{Entry}
 use Rattle.diag_desk.specs.Entries.{asked_by}
 use Rattle.diag_desk.specs.Legal.{Legal, after_step}
 use Rattle.diag_world.specs.Server.{ServerState, Serves, sent_to, server_of}
-use Rattle.diag_bus.specs.Batch.{BusStands, Drew, Gave, GoesOn, LineTaken, lists_of, resumed, resumed_by}
+use Rattle.diag_bus.specs.Bus.{BusStands, LineTaken}
+use Rattle.diag_bus.specs.Clock.{GoesOn, resumed, resumed_by}
 use Rattle.diag_bus.specs.Events.{events_after, events_of, frame_to, gives_if_well, line_events, line_said, moment_said, reference, said_gives, span_said}
+use Rattle.diag_bus.specs.Node.{Drew, Gave, lists_of}
 use Rattle.diag_bus.specs.Sink.{journal_of}
 use Rattle.diag_bus.proofs.Faults.{clock_more}
 use Rattle.diag_bus.specs.declared.node.Node.{Node}

@@ -11,7 +11,7 @@ use Rattle.diag_pdu.specs.Cut.{counted_from}
 use Rattle.diag_setup.specs.declared.raw.RawSetup.{RawSetup}
 use Rattle.diag_ecu.proofs.Unlocking.{bytes_same}
 use Rattle.diag_bus.specs.Events.{line_said}
-use Rattle.diag_bus.specs.Verdict.{Agree, IsDifferent, IsFirstDifference, IsPlace, Means, VerdictLaw, at_line, bytes_of, difference, difference_of, earlier, expected, first_difference, lack_of, places, recorded, recorded_from, reply_said, verdict, verdict_by}
+use Rattle.diag_bus.specs.Verdict.{Agree, IsDifferent, IsFirstDifference, IsNumber, Means, VerdictLaw, at_line, bytes_of, difference, difference_of, earlier, expected, first_difference, lack_of, numbers, recorded, recorded_from, reply_said, verdict, verdict_by}
 use Rattle.diag_bus.specs.declared.verdict.Recorded.{Recorded}
 use Rattle.diag_bus.specs.declared.verdict.Difference.{Difference}
 use Rattle.diag_bus.specs.declared.verdict.Verdict.{Verdict}
@@ -21,7 +21,7 @@ use Rattle.diag_bus.proofs.Verdicts.{both_none, none_left, unmapped}
 
 -- ---- one tester's lists
 
--- each frame of the front is the one that is expected at its place
+-- each frame of the front is the one that is expected at its index
 abbrev SameBefore : ℕ → List Recorded → List (List ℕ) → Type 0
 SameBefore n frames wanted = (p : ℕ) (f : Recorded) → p < n → slice_get frames p ≡ Some f → slice_get wanted p ≡ Some f.bytes
 
@@ -52,20 +52,20 @@ agree_all (g ∷ frames) (bytes ∷ wanted) none missing = pick (bytes_eq g.byte
     pick true same rest next = ap₂ (λ (b : List ℕ) (bs : List (List ℕ)). b ∷ bs) (bytes_same g.bytes bytes same) (next rest)
     pick false same rest next = absurd (none-some _ (sym rest))
 
--- where something differs, it is at a place, and in front of it nothing does
+-- where something differs, it is at an index, and in front of it nothing does
 record Differing (frames : List Recorded) (wanted : List (List ℕ)) (d : Difference) : Type 0 where
-  place : ℕ
-  has : slice_get frames place ≡ Some (at_line d.line d.sent)
-  wants : slice_get wanted place ≡ d.expected
+  index : ℕ
+  has : slice_get frames index ≡ Some (at_line d.line d.sent)
+  wants : slice_get wanted index ≡ d.expected
   other : d.expected ≢ Some d.sent
-  before : SameBefore place frames wanted
+  before : SameBefore index frames wanted
 
 differing : (frames : List Recorded) (wanted : List (List ℕ)) (d : Difference) → difference frames wanted ≡ Some d → Differing frames wanted d
 differing [] wanted d is = absurd (none-some _ is)
 differing (g ∷ frames) [] d is =
     let same : differs_by g None ≡ d = same_Some _ _ is in
     subst (Differing (g ∷ frames) []) same (record
-    { place = 0; has = refl; wants = refl; other = λ e. none-some _ e; before = λ p f less. absurd (omega (arith, less)) })
+    { index = 0; has = refl; wants = refl; other = λ e. none-some _ e; before = λ p f less. absurd (omega (arith, less)) })
 differing (g ∷ frames) (bytes ∷ wanted) d is = pick (bytes_eq g.bytes bytes) refl is (λ rest. differing frames wanted d rest)
   where
     unlike : bytes_eq g.bytes bytes ≡ false → Some bytes ≢ Some g.bytes
@@ -79,11 +79,11 @@ differing (g ∷ frames) (bytes ∷ wanted) d is = pick (bytes_eq g.bytes bytes)
         → (difference frames wanted ≡ Some d → Differing frames wanted d) → Differing (g ∷ frames) (bytes ∷ wanted) d
     pick true same rest next =
         let later = next rest in
-        record { place = suc later.place; has = later.has; wants = later.wants; other = later.other; before = front same later.before }
+        record { index = suc later.index; has = later.has; wants = later.wants; other = later.other; before = front same later.before }
     pick false other rest next =
         let same : differs_by g (Some bytes) ≡ d = same_Some _ _ rest in
         subst (Differing (g ∷ frames) (bytes ∷ wanted)) same
-        (record { place = 0; has = refl; wants = refl; other = unlike other; before = λ p f less. absurd (omega (arith, less)) })
+        (record { index = 0; has = refl; wants = refl; other = unlike other; before = λ p f less. absurd (omega (arith, less)) })
 
 -- lists that agree
 same_none : (frames : List Recorded) → difference frames (map bytes_of frames) ≡ None
@@ -150,7 +150,7 @@ earlier_cases a b = pick (nat_lt b.1.line a.1.line) refl
     pick true e = inr (refl, (let under : b.1.line < a.1.line = grind (arith, nat_tests) in omega (arith, under)))
     pick false e = inl (refl, grind (arith, nat_tests))
 
--- what is found at n places from a on
+-- what is found at n numbers from a on
 record Found {X : Type 0} (g : ℕ → Option X) (a n : ℕ) (x : X) : Type 0 where
   at : ℕ
   low : a ≤ at
@@ -291,12 +291,12 @@ module _ (setup : RawSetup) (lines : List (List ℕ)) where
     where
       pick : (o : Option Difference) → difference (recorded setup lines u) (expected setup lines u) ≡ o
           → (d : Difference) × (difference (recorded setup lines u) (expected setup lines u) ≡ Some d) × (d.line ≤ frame.line)
-      pick None none = absurd (h.other (sym h.wants ∙ same_all (recorded setup lines u) (expected setup lines u) none h.place frame h.has))
+      pick None none = absurd (h.other (sym h.wants ∙ same_all (recorded setup lines u) (expected setup lines u) none h.index frame h.has))
       pick (Some d) is =
           let first = differing (recorded setup lines u) (expected setup lines u) d is in
-          elim (order first.place h.place) [
-            | inl le ↦ (d, is, rising setup u 1 lines first.place h.place (at_line d.line d.sent) frame le first.has h.has)
-            | inr less ↦ absurd (h.other (sym h.wants ∙ first.before h.place frame less h.has))
+          elim (order first.index h.index) [
+            | inl le ↦ (d, is, rising setup u 1 lines first.index h.index (at_line d.line d.sent) frame le first.has h.has)
+            | inr less ↦ absurd (h.other (sym h.wants ∙ first.before h.index frame less h.has))
           ]
         where
           order : (p q : ℕ) → (p ≤ q) ⊎ (q < p)
@@ -317,7 +317,7 @@ module _ (setup : RawSetup) (lines : List (List ℕ)) where
       let own = differing (recorded setup lines t) (expected setup lines t) d from.1 in
       let line : d.line ≡ r.1.line = ap (λ (x : ℕ × Difference). x.1.line) same in
       subst (λ (x : ℕ × Difference). IsFirstDifference setup lines x.0 x.1) same (record {
-        differs = record { tester = (all.0.low, omega (arith, all.0.high)); place = own.place; has = own.has; wants = own.wants; other = own.other };
+        differs = record { tester = (all.0.low, omega (arith, all.0.high)); index = own.index; has = own.has; wants = own.wants; other = own.other };
         first = λ u frame wanted h.
             let other = differs_later u frame wanted h in
             let least = all.1 u (u, other.0) h.tester.0 (omega (arith, h.tester.1)) (ap (option_map (λ (x : Difference). (u, x))) other.1) in
@@ -325,24 +325,24 @@ module _ (setup : RawSetup) (lines : List (List ℕ)) where
       })
 
   module _ (none : first_difference setup lines ≡ None) where
-    no_differences : filter_map (difference_of setup lines) (places setup) ≡ []
-    no_differences = none_left (filter_map (difference_of setup lines) (places setup)) none
+    no_differences : filter_map (difference_of setup lines) (numbers setup) ≡ []
+    no_differences = none_left (filter_map (difference_of setup lines) (numbers setup)) none
 
-    none_of_it : (t : ℕ) → IsPlace setup t → difference (recorded setup lines t) (expected setup lines t) ≡ None
-    none_of_it t place =
+    none_of_it : (t : ℕ) → IsNumber setup t → difference (recorded setup lines t) (expected setup lines t) ≡ None
+    none_of_it t number =
         unmapped (λ (d : Difference). (t, d)) (difference (recorded setup lines t) (expected setup lines t))
-        (none_found (difference_of setup lines) 1 (length setup.testers) no_differences t place.0 (omega (arith, place.1)))
+        (none_found (difference_of setup lines) 1 (length setup.testers) no_differences t number.0 (omega (arith, number.1)))
 
-    agrees_at : (t : ℕ) → IsPlace setup t → lack_of setup lines t ≡ None → Agree setup lines t
-    agrees_at t place missing =
-        agree_all (recorded setup lines t) (expected setup lines t) (none_of_it t place)
+    agrees_at : (t : ℕ) → IsNumber setup t → lack_of setup lines t ≡ None → Agree setup lines t
+    agrees_at t number missing =
+        agree_all (recorded setup lines t) (expected setup lines t) (none_of_it t number)
         (unmapped (Lacks t (length (recorded setup lines t))) (slice_get (expected setup lines t) (length (recorded setup lines t))) missing)
 
     none_differs : (u : ℕ) (frame : Recorded) (wanted : Option (List ℕ)) → ¬ IsDifferent setup lines u frame wanted
     none_differs u frame wanted h = none-some _ (sym (none_of_it u h.tester) ∙ (differs_later u frame wanted h).1)
 
-    means_rest : (lacks : List Verdict) → filter_map (lack_of setup lines) (places setup) ≡ lacks → Means setup lines (verdict_by None lacks)
-    means_rest [] are = λ t place. agrees_at t place (none_found (lack_of setup lines) 1 (length setup.testers) are t place.0 (omega (arith, place.1)))
+    means_rest : (lacks : List Verdict) → filter_map (lack_of setup lines) (numbers setup) ≡ lacks → Means setup lines (verdict_by None lacks)
+    means_rest [] are = λ t number. agrees_at t number (none_found (lack_of setup lines) 1 (length setup.testers) are t number.0 (omega (arith, number.1)))
     means_rest (v ∷ lacks) are =
         let first = first_found (lack_of setup lines) 1 (length setup.testers) v lacks are in
         let t = first.there.at in
@@ -354,18 +354,18 @@ module _ (setup : RawSetup) (lines : List (List ℕ)) where
           has = refl;
           wants = from.1;
           same = none_differs;
-          first = λ u place less. agrees_at u place (first.before u place.0 less);
+          first = λ u number less. agrees_at u number (first.before u number.0 less);
         })
 
   means : Means setup lines (verdict setup lines)
   means = pick (first_difference setup lines) refl
     where
       pick : (o : Option (ℕ × Difference)) → first_difference setup lines ≡ o
-          → Means setup lines (verdict_by o (filter_map (lack_of setup lines) (places setup)))
+          → Means setup lines (verdict_by o (filter_map (lack_of setup lines) (numbers setup)))
       pick (Some r) is = means_first r is
-      pick None none = means_rest none (filter_map (lack_of setup lines) (places setup)) refl
+      pick None none = means_rest none (filter_map (lack_of setup lines) (numbers setup)) refl
 
-  all_agree : ((t : ℕ) → IsPlace setup t → Agree setup lines t) → verdict setup lines ≡ Agrees
+  all_agree : ((t : ℕ) → IsNumber setup t → Agree setup lines t) → verdict setup lines ≡ Agrees
   all_agree agree =
       let differ = all_none (difference_of setup lines) 1 (length setup.testers) (λ t low high.
       let e = agree t (low, omega (arith, high)) in

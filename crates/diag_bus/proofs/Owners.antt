@@ -15,10 +15,10 @@ use Rattle.diag_setup.specs.declared.raw.RawTester.{RawTester}
 use Rattle.diag_setup.proofs.SetupLemmas.{NoneHold, none_hold}
 use Rattle.diag_pdu.specs.Cut.{counted_from}
 use Rattle.diag_bus.specs.Events.{frame_to}
-use Rattle.diag_bus.specs.Requests.{IsOwner, IsWithin, functional_to, functional_to_all}
+use Rattle.diag_bus.specs.RequestIds.{IsOwner, IsWithin, functional_to, functional_to_all}
 use Rattle.diag_bus.specs.declared.request_ids.Owner.{Owner}
 use Rattle.diag_bus.specs.declared.request_ids.Owner.TheVariants as owner
-use Rattle.diag_bus.proofs.Batches.{found_at, frames_more, functional_more}
+use Rattle.diag_bus.proofs.Nodes.{found_at, frames_more, functional_more}
 
 abbrev pub request_id : RawTester → ℕ
 request_id t = id_by t.extended t.request
@@ -87,7 +87,7 @@ ids_once setup well =
     second false true c d e f h = cc
     second false false c d e f h = refl
 
--- the tester of a place
+-- the tester of a number
 tester_at : (setup : RawSetup) (who : ℕ) → IsWithin (length setup.testers) who
     → (t : RawTester) × (slice_get setup.testers (who - 1) ≡ Some t) × ((ids_of setup who).request ≡ request_id t)
     × ((ids_of setup who).functional ≡ functional_of setup.functional t)

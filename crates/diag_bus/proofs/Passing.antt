@@ -5,8 +5,8 @@ use Rattle.std.specs.List.{flat_map}
 use Rattle.std.proofs.lemmas.List.{length-map}
 use Rattle.std.proofs.lemmas.Result.{on_ok_weaker}
 use Rattle.std.specs.declared.alloc.AllocError.{AllocError}
-use Rattle.diag_can.specs.declared.bus.BusLine.{BusLine}
-use Rattle.diag_can.specs.declared.bus.BusLine.TheVariants.{Empty, Ticks}
+use Rattle.diag_can.specs.declared.bus_line.BusLine.{BusLine}
+use Rattle.diag_can.specs.declared.bus_line.BusLine.TheVariants.{Empty, Ticks}
 use Rattle.diag_can.specs.declared.frame.Event.{Event}
 use Rattle.diag_can.specs.declared.frame.Event.TheVariants as event
 use Rattle.diag_pdu.specs.Cut.{counted_from}
@@ -15,13 +15,13 @@ use Rattle.diag_desk.specs.declared.entry.Entry.{Entry}
 use Rattle.diag_port.specs.Port.{port_of}
 use Rattle.diag_port.specs.Standing.{entry_of_ticks}
 use Rattle.diag_world.specs.Server.{Waited, each_of, quiet_of, server_of}
-use Rattle.diag_bus.specs.Batch.{AreSentBy, Gave, IsRest, Lasts, OneSentIn, OneWentOn, Passed, SameShape, lists_of}
-use Rattle.diag_bus.specs.Requests.{AreFilled}
+use Rattle.diag_bus.specs.Filled.{AreFilled}
+use Rattle.diag_bus.specs.Node.{AreSentBy, Gave, IsRest, Lasts, OneSentIn, OneWentOn, Passed, SameShape, lists_of}
 use Rattle.diag_bus.specs.declared.line_frames.LineFrames.{LineFrames}
 use Rattle.diag_bus.specs.Events.{frame_said, frame_to}
 use Rattle.diag_bus.specs.Sink.{StaysFor}
 use Rattle.diag_bus.specs.declared.node.Node.{Node}
-use Rattle.diag_bus.proofs.Batches.{gave_more, gave_none, gave_quiet, same_more, same_none}
+use Rattle.diag_bus.proofs.Nodes.{gave_more, gave_none, gave_quiet, same_more, same_none}
 use Rattle.diag_bus.proofs.Lines.{frames_none}
 use Rattle.diag_bus.proofs.Paces.{sent_more, sent_none, sent_then, took_more, took_none, took_one}
 

@@ -7,7 +7,7 @@ use Rattle.std.proofs.lemmas.Option.{none-some, same_Some, slice_get_within}
 use Rattle.std.specs.List.{filter}
 use Rattle.std.specs.Prelude.{◌==◌, ◌&&◌, if◌then◌else◌, IfSome, not, option_map, slice_get, slice_set}
 use Rattle.std.specs.Option.{option_to_list}
-use Rattle.diag_can.specs.declared.bus.BusLine.{BusLine}
+use Rattle.diag_can.specs.declared.bus_line.BusLine.{BusLine}
 use Rattle.diag_can.specs.declared.frame.Frame.{Frame}
 use Rattle.diag_tp.specs.declared.sent.Sent.{Sent}
 use Rattle.diag_tp.specs.Wire.{wire, sendings, grant}
@@ -16,14 +16,16 @@ use Rattle.diag_setup.specs.declared.raw.RawSetup.{RawSetup}
 use Rattle.diag_world.proofs.Worlds.{set_cases}
 use Rattle.diag_bus.specs.Comparing.{Compares, ComparesLines, Each, EachExpects, EachRecords, Expects, Records, TakesLine, frame_has}
 use Rattle.diag_bus.specs.Events.{events_of, frame_said}
-use Rattle.diag_bus.specs.Requests.{AreFilled, IsResponder, IsWithin}
+use Rattle.diag_bus.specs.Filled.{AreFilled}
+use Rattle.diag_bus.specs.RequestIds.{IsWithin}
+use Rattle.diag_bus.specs.ResponseIds.{IsResponder}
 use Rattle.diag_bus.specs.Text.{sent_of}
 use Rattle.diag_bus.specs.Verdict.{at_line, expected, expected_of, is_pending, line_has, recorded, recorded_from, reply_said, sent_bytes}
 use Rattle.diag_bus.specs.declared.comparing.Comparison.{Comparison}
 use Rattle.diag_bus.specs.declared.comparing.Comparisons.{Comparisons}
 use Rattle.diag_bus.specs.declared.filled.Filled.TheVariants.{At, Nowhere}
 use Rattle.diag_bus.specs.declared.verdict.Recorded.{Recorded}
-use Rattle.diag_bus.proofs.Batches.{found_at}
+use Rattle.diag_bus.proofs.Nodes.{found_at}
 use Rattle.diag_world.proofs.Waiting.{get_set_other}
 
 -- ---- the recording of one tester
@@ -57,15 +59,15 @@ each_same P old h = record {
 }
 
 -- that of one of them did
-pub each_at : (P : ℕ → Comparison → Comparison → Type 0) (old : List Comparison) (place : ℕ) (own new : Comparison)
-    → slice_get old place ≡ Some own → P place own new → ((i : ℕ) (c : Comparison) → i ≢ place → slice_get old i ≡ Some c → P i c c)
-    → Each P old (slice_set old place new)
-each_at P old place own new here took others = record {
-  many = length-set old place new;
-  each = λ i before after was is. elim (set_cases old place i new after is) [
+pub each_at : (P : ℕ → Comparison → Comparison → Type 0) (old : List Comparison) (index : ℕ) (own new : Comparison)
+    → slice_get old index ≡ Some own → P index own new → ((i : ℕ) (c : Comparison) → i ≢ index → slice_get old i ≡ Some c → P i c c)
+    → Each P old (slice_set old index new)
+each_at P old index own new here took others = record {
+  many = length-set old index new;
+  each = λ i before after was is. elim (set_cases old index i new after is) [
     | inl p ↦ (
         let mine : own ≡ before = same_Some _ _ (sym here ∙ (ap (slice_get old) (sym p.0) ∙ was)) in
-        subst (λ j. P j before after) (sym p.0) (subst (λ (c : Comparison). P place before c) (sym p.1) (subst (λ (c : Comparison). P place c new) mine took)))
+        subst (λ j. P j before after) (sym p.0) (subst (λ (c : Comparison). P index before c) (sym p.1) (subst (λ (c : Comparison). P index c new) mine took)))
     | inr p ↦ subst (λ (c : Comparison). P i before c) (same_Some _ _ (sym was ∙ p.1)) (others i before p.0 was)
   ];
 }
@@ -114,11 +116,11 @@ pub expects_nowhere : (drawn : List (List Sent)) (old : List Comparison) → Are
 expects_nowhere drawn old empty = each_same _ old (λ i own at frames drew. expects_empty own frames (empty i frames drew))
 
 -- no list has any but this
-pub expects_at : (drawn : List (List Sent)) (old : List Comparison) (place : ℕ) (own new : Comparison) (frames : List Sent) → AreFilled (At place) drawn
-    → slice_get old place ≡ Some own → slice_get drawn place ≡ Some frames → Expects own new (expected_of frames)
-    → EachExpects drawn old (slice_set old place new)
-expects_at drawn old place own new frames filled here drew took =
-    each_at _ old place own new here
+pub expects_at : (drawn : List (List Sent)) (old : List Comparison) (index : ℕ) (own new : Comparison) (frames : List Sent) → AreFilled (At index) drawn
+    → slice_get old index ≡ Some own → slice_get drawn index ≡ Some frames → Expects own new (expected_of frames)
+    → EachExpects drawn old (slice_set old index new)
+expects_at drawn old index own new frames filled here drew took =
+    each_at _ old index own new here
     (λ others found. subst (λ (fs : List Sent). Expects own new (expected_of fs)) (same_Some _ _ (sym drew ∙ found)) took)
     (λ i c apart at others found. expects_empty c others (filled.1 i others apart found))
 

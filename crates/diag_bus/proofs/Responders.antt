@@ -7,8 +7,9 @@ use Rattle.diag_setup.specs.Rows.{has_key, has_repeat}
 use Rattle.diag_setup.specs.Setup.{can_ids, fault_of, ids_of, itself, nobody}
 use Rattle.diag_setup.specs.declared.raw.RawSetup.{RawSetup}
 use Rattle.diag_setup.specs.declared.raw.RawTester.{RawTester}
-use Rattle.diag_bus.specs.Requests.{IsResponder, IsWithin}
-use Rattle.diag_bus.proofs.Batches.{found_at}
+use Rattle.diag_bus.specs.RequestIds.{IsWithin}
+use Rattle.diag_bus.specs.ResponseIds.{IsResponder}
+use Rattle.diag_bus.proofs.Nodes.{found_at}
 use Rattle.diag_bus.proofs.Owners.{ids_once, others_once, request_id, response_id}
 
 -- ---- no response has the identifier of another
@@ -50,7 +51,7 @@ responses_apart (v ∷ ts) zero (suc j) t u once at there less same =
 responses_apart (v ∷ ts) (suc i) (suc j) t u once at there less same =
     responses_apart ts i j t u (others_once v ts once) at there (omega (arith, less)) same
 
--- the tester of a place
+-- the tester of a number
 tester_at : (setup : RawSetup) (who : ℕ) → IsWithin (length setup.testers) who
     → (t : RawTester) × (slice_get setup.testers (who - 1) ≡ Some t) × ((ids_of setup who).response ≡ response_id t)
 tester_at setup who within =

@@ -6,18 +6,18 @@ use Rattle.std.proofs.lemmas.Bool.Decides.{nat_tests}
 use Rattle.std.proofs.lemmas.Option.{none-some}
 use Rattle.std.specs.Prelude.{◌&&◌, nat_le, nat_lt}
 use Rattle.std.specs.List.{AllPass, prefix_len}
-use Rattle.diag_can.specs.Bus.{bus_line}
+use Rattle.diag_can.specs.BusLine.{bus_line}
 use Rattle.diag_can.specs.Line.{is_time, line_says, stamped, stamped_frame, stamped_line, text_frame, tick_count, tick_line}
 use Rattle.diag_can.specs.Log.{without_return}
 use Rattle.diag_can.specs.Stamp.{◌>>=◌, behind, behind_name, digits_of, is_digit, moment_of, stamp_of}
-use Rattle.diag_can.specs.declared.bus.BusLine.{BusLine}
-use Rattle.diag_can.specs.declared.bus.BusLine.TheVariants.{Empty, Ticks, Stamped}
+use Rattle.diag_can.specs.declared.bus_line.BusLine.{BusLine}
+use Rattle.diag_can.specs.declared.bus_line.BusLine.TheVariants.{Empty, Ticks, Stamped}
 use Rattle.diag_can.specs.declared.fault.LineFault.{LineFault}
 use Rattle.diag_can.specs.declared.fault.LineFault.TheVariants.{BadLine, BadTick}
 use Rattle.diag_can.specs.declared.frame.Frame.{Frame}
 use Rattle.diag_can.proofs.Digits.{decimal_value-lt}
 use Rattle.diag_can.proofs.Runs.{run-passes}
-use Rattle.diag_bus.specs.Batch.{SaidBelow, moment_end}
+use Rattle.diag_bus.specs.Clock.{SaidBelow, moment_end}
 
 -- ---- a stamp
 

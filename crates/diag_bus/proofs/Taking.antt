@@ -4,15 +4,16 @@ use Rattle.std.proofs.Common.{◌≡◌, ◌≤◌, ℕ, ◌+◌, false, List, [
 use Rattle.std.proofs.lemmas.Bool.Decides.{nat_tests}
 use Rattle.std.specs.Prelude.{IfSome, nat_lt, slice_get}
 use Rattle.diag_can.specs.Log.{waited}
-use Rattle.diag_can.specs.declared.bus.BusLine.{BusLine}
+use Rattle.diag_can.specs.declared.bus_line.BusLine.{BusLine}
 use Rattle.diag_tp.specs.declared.sent.Sent.{Sent}
 use Rattle.diag_setup.specs.declared.raw.RawSetup.{RawSetup}
 use Rattle.diag_desk.specs.declared.entry.Entry.{Entry}
 use Rattle.diag_port.specs.Port.{Grew}
 use Rattle.diag_world.specs.Server.{ServerView, closing_time, server_of}
-use Rattle.diag_bus.specs.Batch.{AreSentBy, BusStands, Gave, GoesOn, HasTime, IsBy, IsReady, SaidBelow, SameShape, SentIn, StartsBelow, TookTime, lists_of, moment_end}
-use Rattle.diag_bus.specs.Bus.{AnswersLine, AreSound, BusState, TookLine, TookLines}
+use Rattle.diag_bus.specs.Bus.{AnswersLine, AreSound, BusStands, BusState, TookLine, TookLines}
+use Rattle.diag_bus.specs.Clock.{GoesOn, SaidBelow, StartsBelow, moment_end}
 use Rattle.diag_bus.specs.Events.{fault_said, line_fault, line_said, said_gives, span_said, time_said}
+use Rattle.diag_bus.specs.Node.{AreSentBy, Gave, HasTime, IsBy, IsReady, SameShape, SentIn, TookTime, lists_of}
 use Rattle.diag_bus.specs.Sink.{EndsLine, StaysFor}
 use Rattle.diag_bus.specs.declared.clock.Clock.{Clock}
 use Rattle.diag_bus.specs.declared.fault.BusFault.{BusFault}

@@ -8,7 +8,7 @@ use Rattle.diag_pdu.specs.Cut.{cut}
 use Rattle.diag_tp.specs.Reception.{open_at}
 use Rattle.diag_tp.specs.Sending.{course}
 use Rattle.diag_tp.specs.Wire.{wire, sendings, grant}
-use Rattle.diag_can.specs.Bus.{bus_lines}
+use Rattle.diag_can.specs.BusLine.{bus_lines}
 use Rattle.diag_port.specs.Late.{pendings}
 use Rattle.diag_setup.specs.ExampleSetup.{two_testers}
 use Rattle.diag_bus.specs.Text.{text_of}

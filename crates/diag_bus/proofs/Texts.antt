@@ -13,8 +13,10 @@ use Rattle.diag_pdu.specs.Cut.{counted_from}
 use Rattle.diag_setup.specs.declared.raw.RawSetup.{RawSetup}
 use Rattle.diag_setup.specs.Rows.{in_order}
 use Rattle.diag_world.specs.Server.{ServerState}
-use Rattle.diag_bus.specs.Batch.{AreSentBy, LineTaken, resumed}
+use Rattle.diag_bus.specs.Bus.{LineTaken}
+use Rattle.diag_bus.specs.Clock.{resumed}
 use Rattle.diag_bus.specs.Events.{events_of}
+use Rattle.diag_bus.specs.Node.{AreSentBy}
 use Rattle.diag_bus.specs.Text.{drawn_by, drawn_for, gathered, line_of, line_text, sent_of, start_after, text_after, text_of, time_of}
 use Rattle.diag_bus.specs.declared.clock.Clock.{Clock}
 use Rattle.diag_bus.specs.declared.clock.Start.{Start}

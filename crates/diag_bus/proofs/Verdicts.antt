@@ -10,23 +10,23 @@ use Rattle.std.specs.Option.{option_to_list}
 use Rattle.diag_pdu.specs.Cut.{counted_from}
 use Rattle.diag_setup.specs.declared.raw.RawSetup.{RawSetup}
 use Rattle.diag_bus.specs.Comparing.{earlier_of}
-use Rattle.diag_bus.specs.Verdict.{difference, difference_of, earlier, expected, first_difference, lack_of, places, recorded, verdict, verdict_by}
+use Rattle.diag_bus.specs.Verdict.{difference, difference_of, earlier, expected, first_difference, lack_of, numbers, recorded, verdict, verdict_by}
 use Rattle.diag_bus.specs.declared.verdict.Difference.{Difference}
 use Rattle.diag_bus.specs.declared.verdict.Verdict.{Verdict}
 use Rattle.diag_world.proofs.Waiting.{counted_more}
 
--- ---- one place more
+-- ---- one number more
 
-one_place : {X : Type 0} (o : Option X) → cons_option o [] ≡ option_to_list o
-one_place None = refl
-one_place (Some x) = refl
+one_number : {X : Type 0} (o : Option X) → cons_option o [] ≡ option_to_list o
+one_number None = refl
+one_number (Some x) = refl
 
-pub place_more : {X : Type 0} (g : ℕ → Option X) (n : ℕ) → filter_map g (counted_from 1 (n + 1)) ≡ filter_map g (counted_from 1 n) ++ option_to_list (g (n + 1))
-place_more g n =
+pub number_more : {X : Type 0} (g : ℕ → Option X) (n : ℕ) → filter_map g (counted_from 1 (n + 1)) ≡ filter_map g (counted_from 1 n) ++ option_to_list (g (n + 1))
+number_more g n =
     let next : 1 + n ≡ n + 1 = omega arith in
     ap (filter_map g) (counted_more 1 n)
     ∙ (filter_map-append g (counted_from 1 n) ((1 + n) ∷ [])
-    ∙ (ap (λ w. filter_map g (counted_from 1 n) ++ w) (one_place (g (1 + n))) ∙ ap (λ k. filter_map g (counted_from 1 n) ++ option_to_list (g k)) next))
+    ∙ (ap (λ w. filter_map g (counted_from 1 n) ++ w) (one_number (g (1 + n))) ∙ ap (λ k. filter_map g (counted_from 1 n) ++ option_to_list (g k)) next))
 
 pub earlier_more : (ds : List (ℕ × Difference)) (o : Option (ℕ × Difference)) → earlier_of (reduce earlier ds) o ≡ reduce earlier (ds ++ option_to_list o)
 earlier_more [] None = refl
@@ -60,7 +60,7 @@ pub no_difference : (setup : RawSetup) (lines : List (List ℕ)) (i : ℕ) → f
     → difference (recorded setup lines (i + 1)) (expected setup lines (i + 1)) ≡ None
 no_difference setup lines i none less =
     let next : 1 + i ≡ i + 1 = omega arith in
-    let here = none_at (difference_of setup lines) 1 (length setup.testers) i (none_left (filter_map (difference_of setup lines) (places setup)) none) less in
+    let here = none_at (difference_of setup lines) 1 (length setup.testers) i (none_left (filter_map (difference_of setup lines) (numbers setup)) none) less in
     unmapped (λ d. (i + 1, d)) (difference (recorded setup lines (i + 1)) (expected setup lines (i + 1))) (ap (difference_of setup lines) (sym next) ∙ here)
 
 -- ---- the first of whom frames are missing

@@ -1,16 +1,38 @@
 -- What a bus stands for: the lines of a capture that it took.
-use Rattle.std.specs.Prelude.{◌≡◌, ◌≢◌, ℕ, List, [], ◌∷◌, ◌++◌, length, Some, None, IfSome, OnOk, OnErr, Result, Err}
+use Rattle.std.specs.Prelude.{◌≡◌, ◌≢◌, ℕ, ◌+◌, List, [], ◌∷◌, ◌++◌, length, Some, None, IfSome, OnOk, OnErr, Result, Err, slice_get}
+use Rattle.diag_tp.specs.declared.sent.Sent.{Sent}
 use Rattle.diag_setup.specs.declared.raw.RawSetup.{RawSetup}
 use Rattle.diag_desk.specs.declared.entry.Entry.{Entry}
 use Rattle.diag_port.specs.Port.{Grew}
-use Rattle.diag_world.specs.Server.{ServerState}
-use Rattle.diag_bus.specs.Batch.{BusStands, IsBy, IsRest, StartsBelow, lists_of, moment_end}
-use Rattle.diag_bus.specs.Events.{first_fault, line_fault}
-use Rattle.diag_bus.specs.Requests.{AreFilled}
+use Rattle.diag_world.specs.Server.{ServerState, Serves}
+use Rattle.diag_bus.specs.Clock.{StartsBelow, moment_end, resumed}
+use Rattle.diag_bus.specs.Events.{clock_of, events_of, first_fault, line_fault, reference}
+use Rattle.diag_bus.specs.Filled.{AreFilled}
+use Rattle.diag_bus.specs.Node.{IsBy, IsRest, lists_of}
+use Rattle.diag_bus.specs.Text.{sent_of, start_after}
 use Rattle.diag_bus.specs.declared.clock.Clock.{Clock}
 use Rattle.diag_bus.specs.declared.fault.BusFault.{BusFault}
 use Rattle.diag_bus.specs.declared.fault.BusFault.TheVariants as fault
 use Rattle.diag_bus.specs.declared.node.Node.{Node}
+
+-- the server and the clock took these lines
+pub record BusStands (setup : RawSetup) (server : ServerState) (clock : Clock)
+    (lines : List (List ℕ)) : Type 0 where
+  pub journal : List Entry
+  pub serves : Serves setup server (events_of setup lines) journal
+  pub reference : clock.reference ≡ reference setup lines
+  pub time : clock.time ≡ clock_of setup lines
+  pub start : (next : List (List ℕ)) → start_after setup 0 (lines ++ next)
+      ≡ resumed setup clock.start clock.time next
+
+-- they took this line after these, and each tester's list has the frames that it draws
+pub record LineTaken (setup : RawSetup) (lines : List (List ℕ)) (line : List ℕ)
+    (server : ServerState) (drawn : List (List Sent)) (clock : Clock) : Type 0 where
+  pub stands : BusStands setup server clock (lines ++ line ∷ [])
+  pub lists : length drawn ≡ length setup.testers
+  pub frames : (i : ℕ) (frames : List Sent) → slice_get drawn i ≡ Some frames
+      → sent_of setup (events_of setup (lines ++ line ∷ [])) (i + 1)
+      ≡ sent_of setup (events_of setup lines) (i + 1) ++ frames
 
 -- what a contract sees of a bus
 pub record BusState (S : Type 0) : Type 0 where

@@ -1,7 +1,7 @@
 -- What is kept of a recording and of the frames that the server sends: those by which the two are apart.
 use Rattle.std.specs.Prelude.{◌≡◌, ◌⊎◌, ℕ, ◌+◌, List, [], ◌∷◌, ◌++◌, length, map, Option, Some, None, Ok, option_map, slice_get}
 use Rattle.std.specs.Option.{option_to_list}
-use Rattle.diag_can.specs.declared.bus.BusLine.{BusLine}
+use Rattle.diag_can.specs.declared.bus_line.BusLine.{BusLine}
 use Rattle.diag_can.specs.declared.frame.Frame.{Frame}
 use Rattle.diag_tp.specs.declared.sent.Sent.{Sent}
 use Rattle.diag_setup.specs.Setup.{ids_of}
@@ -52,7 +52,7 @@ Records old new frames = (recorded : List Recorded) (expected : List (List ℕ))
     → Compares old recorded expected
     → Compares new (recorded ++ frames) expected
 
--- two frames were compared that stand at one place, behind which this was kept
+-- two frames were compared that stand at one index, behind which this was kept
 abbrev pub Compared : Comparison → Comparison → Recorded → List ℕ → Type 0
 Compared old new frame bytes = (recorded : List Recorded) (expected : List (List ℕ))
     → old.count ≡ length recorded
@@ -87,7 +87,7 @@ pub record Each (P : ℕ → Comparison → Comparison → Type 0) (old new : Li
   pub each : (i : ℕ) (before after : Comparison) → slice_get old i ≡ Some before → slice_get new i ≡ Some after
       → P i before after
 
--- the frames of the list at this place were taken
+-- the frames of the list at this index were taken
 abbrev pub ExpectsAt : List (List Sent) → ℕ → Comparison → Comparison → Type 0
 ExpectsAt drawn i before after = (frames : List Sent) → slice_get drawn i ≡ Some frames → Expects before after (expected_of frames)
 

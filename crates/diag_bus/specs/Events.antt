@@ -2,11 +2,11 @@
 use Rattle.std.specs.Prelude.{◌≡◌, ◌≤◌, ℕ, ◌+◌, max, nat_lt, if◌then◌else◌, List, [], ◌∷◌, ◌++◌, length, Option, Some, None, Result, Ok, Err}
 use Rattle.std.specs.List.{filter_map, flat_map, reduce}
 use Rattle.std.specs.Option.{option_to_list}
-use Rattle.diag_can.specs.Bus.{bus_line, bus_lines}
+use Rattle.diag_can.specs.BusLine.{bus_line, bus_lines}
 use Rattle.diag_can.specs.Line.{frame_for}
 use Rattle.diag_can.specs.Log.{silence, waited}
-use Rattle.diag_can.specs.declared.bus.BusLine.{BusLine}
-use Rattle.diag_can.specs.declared.bus.BusLine.TheVariants.{Empty, Ticks, Stamped}
+use Rattle.diag_can.specs.declared.bus_line.BusLine.{BusLine}
+use Rattle.diag_can.specs.declared.bus_line.BusLine.TheVariants.{Empty, Ticks, Stamped}
 use Rattle.diag_can.specs.declared.fault.LineFault.{LineFault}
 use Rattle.diag_can.specs.declared.frame.Event.{Event}
 use Rattle.diag_can.specs.declared.frame.Event.TheVariants as event

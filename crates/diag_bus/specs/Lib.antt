@@ -1,9 +1,13 @@
-pub mod Batch
 pub mod Bus
+pub mod Clock
 pub mod Comparing
 pub mod Events
+pub mod Filled
 pub mod Journal
-pub mod Requests
+pub mod Node
+pub mod RequestIds
+pub mod ResponseIds
 pub mod Sink
 pub mod Text
 pub mod Verdict
+pub mod Writing

@@ -1,7 +1,7 @@
 -- What the methods of a sink do.
 use Rattle.std.specs.Prelude.{◌≡◌, ℕ, List, [], ◌∷◌, ◌++◌, length, Ok}
 use Rattle.diag_can.specs.Log.{waited}
-use Rattle.diag_can.specs.declared.bus.BusLine.{BusLine}
+use Rattle.diag_can.specs.declared.bus_line.BusLine.{BusLine}
 use Rattle.diag_setup.specs.declared.raw.RawSetup.{RawSetup}
 use Rattle.diag_tp.specs.declared.sent.Sent.{Sent}
 use Rattle.diag_ecu.specs.State.{State}
@@ -9,9 +9,11 @@ use Rattle.diag_desk.specs.Legal.{after}
 use Rattle.diag_desk.specs.Text.{ticks_of}
 use Rattle.diag_desk.specs.declared.entry.Entry.{Entry}
 use Rattle.diag_world.specs.Server.{ServerState, closing_time}
-use Rattle.diag_bus.specs.Batch.{AreSentBy, LineTaken, StartsBelow, lists_of, moment_end}
+use Rattle.diag_bus.specs.Bus.{LineTaken}
+use Rattle.diag_bus.specs.Clock.{StartsBelow, moment_end}
 use Rattle.diag_bus.specs.Events.{events_of, line_said, reference, time_said}
-use Rattle.diag_bus.specs.Requests.{AreFilled}
+use Rattle.diag_bus.specs.Filled.{AreFilled}
+use Rattle.diag_bus.specs.Node.{AreSentBy, lists_of}
 use Rattle.diag_bus.specs.Text.{ecu_after, run_of}
 use Rattle.diag_bus.specs.declared.clock.Clock.{Clock}
 use Rattle.diag_bus.specs.declared.line_frames.LineFrames.{LineFrames}

@@ -2,8 +2,8 @@
 use Rattle.std.specs.Prelude.{◌≡◌, ℕ, ◌+◌, ◌-◌, List, [], ◌∷◌, ◌++◌, length, map, drop, Option, Some, None, Result, Ok, Err}
 use Rattle.std.specs.List.{flat_map}
 use Rattle.diag_can.specs.Reply.{reply_line}
-use Rattle.diag_can.specs.declared.bus.BusLine.{BusLine}
-use Rattle.diag_can.specs.declared.bus.BusLine.TheVariants.{Empty, Ticks, Stamped}
+use Rattle.diag_can.specs.declared.bus_line.BusLine.{BusLine}
+use Rattle.diag_can.specs.declared.bus_line.BusLine.TheVariants.{Empty, Ticks, Stamped}
 use Rattle.diag_can.specs.declared.fault.LineFault.{LineFault}
 use Rattle.diag_can.specs.declared.frame.Event.{Event}
 use Rattle.diag_tp.specs.declared.sent.Sent.{Sent}
@@ -20,7 +20,7 @@ use Rattle.diag_desk.specs.Legal.{Legal, after, after_step, reply_to}
 use Rattle.diag_desk.specs.Text.{journal_text_at}
 use Rattle.diag_desk.specs.Timed.{own_timed, timed}
 use Rattle.diag_port.specs.Late.{pace_of}
-use Rattle.diag_port.specs.Placing.{drawn}
+use Rattle.diag_port.specs.Releasing.{drawn}
 use Rattle.diag_world.specs.Server.{sent_to}
 use Rattle.diag_world.specs.Weaving.{items_of, steps_of}
 use Rattle.diag_bus.specs.Events.{events_of, line_said}
@@ -85,9 +85,9 @@ abbrev pub line_of : RawSetup → Option Start → Drawn → List ℕ
 line_of setup start drawn =
     reply_line (name_of setup drawn.who) (bus_moment start drawn.sent.at) drawn.sent.frame
 
--- the reply lines of frames of the tester at this place, from 0, as they stand
+-- the reply lines of frames of the tester at this index, from 0, as they stand
 abbrev pub own_text : RawSetup → Option Start → ℕ → List Sent → List ℕ
-own_text setup start place frames = flat_map (λ sent. line_of setup start (drawn_for (place + 1) sent)) frames
+own_text setup start index frames = flat_map (λ sent. line_of setup start (drawn_for (index + 1) sent)) frames
 
 -- the reply lines of the testers' lists
 abbrev pub drawn_text : RawSetup → Option Start → List (List Sent) → List ℕ

@@ -4,7 +4,7 @@ use Rattle.std.specs.Fmt.{decimal}
 use Rattle.std.specs.List.{filter, filter_map, flat_map, reduce}
 use Rattle.std.specs.Option.{option_to_list}
 use Rattle.hex.specs.Hex.{encode_upper}
-use Rattle.diag_can.specs.declared.bus.BusLine.{BusLine}
+use Rattle.diag_can.specs.declared.bus_line.BusLine.{BusLine}
 use Rattle.diag_can.specs.declared.fault.LineFault.{LineFault}
 use Rattle.diag_can.specs.declared.frame.Frame.{Frame}
 use Rattle.diag_tp.specs.declared.sent.Sent.{Sent}
@@ -71,7 +71,7 @@ expected setup lines t = expected_of (sent_of setup (events_of setup lines) t)
 
 -- ---- the verdict
 
--- the first frame that isn't the one expected at its place
+-- the first frame that isn't the one expected at its index
 abbrev pub difference : List Recorded → List (List ℕ) → Option Difference
 difference [] expected = None
 difference (frame ∷ frames) [] =
@@ -100,23 +100,23 @@ verdict_by (Some first) lacks = Differs first.0 first.1
 verdict_by None [] = Agrees
 verdict_by None (lack ∷ lacks) = lack
 
--- the testers by their places
-abbrev pub places : RawSetup → List ℕ
-places setup = counted_from 1 (length setup.testers)
+-- the testers by their numbers, from 1
+abbrev pub numbers : RawSetup → List ℕ
+numbers setup = counted_from 1 (length setup.testers)
 
 -- the first difference in the order of the lines, and its tester
 abbrev pub first_difference : RawSetup → List (List ℕ) → Option (ℕ × Difference)
-first_difference setup lines = reduce earlier (filter_map (difference_of setup lines) (places setup))
+first_difference setup lines = reduce earlier (filter_map (difference_of setup lines) (numbers setup))
 
 -- the first difference; where there is none, the first tester of whom frames are missing
 abbrev pub verdict : RawSetup → List (List ℕ) → Verdict
 verdict setup lines =
-    verdict_by (first_difference setup lines) (filter_map (lack_of setup lines) (places setup))
+    verdict_by (first_difference setup lines) (filter_map (lack_of setup lines) (numbers setup))
 
 -- ---- what it means
 
-abbrev pub IsPlace : RawSetup → ℕ → Type 0
-IsPlace setup t = (1 ≤ t) × (t ≤ length setup.testers)
+abbrev pub IsNumber : RawSetup → ℕ → Type 0
+IsNumber setup t = (1 ≤ t) × (t ≤ length setup.testers)
 
 -- the recording has of a tester just the frames that are expected
 abbrev pub Agree : RawSetup → List (List ℕ) → ℕ → Type 0
@@ -125,10 +125,10 @@ Agree setup lines t = map bytes_of (recorded setup lines t) ≡ expected setup l
 -- the recording has this frame of a tester, where another is expected, or none
 pub record IsDifferent (setup : RawSetup) (lines : List (List ℕ)) (t : ℕ) (frame : Recorded)
     (wanted : Option (List ℕ)) : Type 0 where
-  pub tester : IsPlace setup t
-  pub place : ℕ
-  pub has : slice_get (recorded setup lines t) place ≡ Some frame
-  pub wants : slice_get (expected setup lines t) place ≡ wanted
+  pub tester : IsNumber setup t
+  pub index : ℕ
+  pub has : slice_get (recorded setup lines t) index ≡ Some frame
+  pub wants : slice_get (expected setup lines t) index ≡ wanted
   pub other : wanted ≢ Some frame.bytes
 
 -- no earlier line has a frame that differs
@@ -142,22 +142,22 @@ pub record IsFirstDifference (setup : RawSetup) (lines : List (List ℕ)) (t : �
 -- no line has a frame that differs, and of the testers before this one none is missing
 pub record IsFirstLack (setup : RawSetup) (lines : List (List ℕ)) (t count : ℕ) (next : List ℕ)
     : Type 0 where
-  pub tester : IsPlace setup t
+  pub tester : IsNumber setup t
   pub has : count ≡ length (recorded setup lines t)
   pub wants : slice_get (expected setup lines t) count ≡ Some next
   pub same : (u : ℕ) (frame : Recorded) (wanted : Option (List ℕ))
       → ¬ IsDifferent setup lines u frame wanted
-  pub first : (u : ℕ) → IsPlace setup u → u < t → Agree setup lines u
+  pub first : (u : ℕ) → IsNumber setup u → u < t → Agree setup lines u
 
 abbrev pub Means : RawSetup → List (List ℕ) → Verdict → Type 0
-Means setup lines Agrees = (t : ℕ) → IsPlace setup t → Agree setup lines t
+Means setup lines Agrees = (t : ℕ) → IsNumber setup t → Agree setup lines t
 Means setup lines (Differs t d) = IsFirstDifference setup lines t d
 Means setup lines (Lacks t count next) = IsFirstLack setup lines t count next
 
 -- the verdict means what it says, and where the frames of all testers agree it says so
 abbrev pub VerdictLaw : Type 0
 VerdictLaw = (setup : RawSetup) (lines : List (List ℕ)) → Means setup lines (verdict setup lines)
-    × (((t : ℕ) → IsPlace setup t → Agree setup lines t) → verdict setup lines ≡ Agrees)
+    × (((t : ℕ) → IsNumber setup t → Agree setup lines t) → verdict setup lines ≡ Agrees)
 
 -- ---- how it is told
 
@@ -167,7 +167,7 @@ agreed_line setup lines t = name_of setup t ++ codes " "
 
 -- of each tester how many frames agree
 abbrev pub agreement_text : RawSetup → List (List ℕ) → List ℕ
-agreement_text setup lines = flat_map (agreed_line setup lines) (places setup)
+agreement_text setup lines = flat_map (agreed_line setup lines) (numbers setup)
 
 abbrev pub expected_text : Option (List ℕ) → List ℕ
 expected_text None = codes "nothing"

@@ -52,7 +52,7 @@ impl<S: Sink> Drop for Bus<S> {
 impl<S: Sink> Model for Bus<S> {
     ghost use Rattle.diag_world.specs.Server.{server_of};
     ghost use Rattle.diag_bus.specs.Bus.{AreSound, BusState};
-    ghost use Rattle.diag_bus.specs.Requests.{AreRequestsOf};
+    ghost use Rattle.diag_bus.specs.RequestIds.{AreRequestsOf};
 
     ghost Value = { BusState S };
 

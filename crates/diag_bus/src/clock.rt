@@ -5,7 +5,7 @@ ghost use Rattle.std.specs.Prelude.{◌≡◌, ◌+◌, ◌-◌, ◌≤◌, ◌<
 ghost use Rattle.diag_can.specs.Log.{waited};
 ghost use Rattle.diag_can.specs.Reading.{later};
 ghost use Rattle.diag_world.specs.Server.{closing_time};
-ghost use Rattle.diag_bus.specs.Batch.{GoesOn, SaidBelow, StartsBelow, started_at};
+ghost use Rattle.diag_bus.specs.Clock.{GoesOn, SaidBelow, StartsBelow, started_at};
 ghost use Rattle.diag_bus.specs.Events.{span_said, time_said};
 
 use crate::fault::BusFault;

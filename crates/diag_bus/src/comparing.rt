@@ -1,9 +1,11 @@
 //! What is kept of a recording and of the frames that the server sends, to compare the two.
 
 ghost use Rattle.std.specs.Prelude.{◌≡◌, ◌≤◌, ℕ, List, [], ◌∷◌, ◌+◌, length, map, slice_get, Some, IfSome, OnOk, IfOk};
-ghost use Rattle.diag_bus.specs.Batch.{lists_of};
 ghost use Rattle.diag_bus.specs.Comparing.{Compared, Compares, ComparesLines, EachExpects, EachRecords, Expects, Records, TakesLine};
-ghost use Rattle.diag_bus.specs.Requests.{AreFilled, AreResponsesOf, IsResponder, IsWithin};
+ghost use Rattle.diag_bus.specs.Filled.{AreFilled};
+ghost use Rattle.diag_bus.specs.Node.{lists_of};
+ghost use Rattle.diag_bus.specs.RequestIds.{IsWithin};
+ghost use Rattle.diag_bus.specs.ResponseIds.{AreResponsesOf, IsResponder};
 ghost use Rattle.diag_bus.specs.Verdict.{difference, expected_of, first_difference, is_pending, recorded, verdict};
 ghost use Rattle.diag_bus.specs.declared.comparing.Comparison.{Comparison as AComparison};
 ghost use Rattle.diag_bus.specs.declared.verdict.Recorded.{Recorded as ARecorded};
@@ -34,7 +36,7 @@ pub struct Comparison {
     pub behind: VecDeque<FrameBytes>,
     /// How many frames the recording had.
     pub count: u64,
-    /// The first difference, once the frame that the server sends at its place is known. Nothing is kept behind it.
+    /// The first difference, once the frame that the server sends at its index is known. Nothing is kept behind it.
     pub difference: Option<Difference>,
 }
 
@@ -51,7 +53,7 @@ impl Comparison {
         }
     }
 
-    /// Compares a frame of the recording with the one that the server sends at its place.
+    /// Compares a frame of the recording with the one that the server sends at its index.
     fn compare(&mut self, frame: Recorded, bytes: FrameBytes)
         requires { self.old.difference ≡ None }
         ensures { Compared self.old self.new frame bytes }
@@ -277,7 +279,7 @@ impl Comparisons {
 impl Sink for Comparisons {
     ghost use Rattle.std.specs.Prelude.{◌≡◌, [], false, length};
     ghost use Rattle.diag_bus.specs.Comparing.{ComparesLines};
-    ghost use Rattle.diag_bus.specs.Requests.{AreResponsesOf};
+    ghost use Rattle.diag_bus.specs.ResponseIds.{AreResponsesOf};
 
     ghost is_for = { λ kept setup. (length kept.testers.items ≡ length setup.testers)
         × AreResponsesOf setup kept.responses };
@@ -368,7 +370,7 @@ fn expect(testers: &mut Vec<Comparison>, drawn: &LineFrames) -> Result<(), Alloc
 {
     match drawn.filled {
         Filled::Nowhere => Ok(()),
-        Filled::At(place) => testers[place].expect_each(drawn.lists[place].as_slice()),
+        Filled::At(index) => testers[index].expect_each(drawn.lists[index].as_slice()),
         Filled::Anywhere => expect_all(testers, drawn.lists.as_slice()),
     }
 }
@@ -380,8 +382,8 @@ fn expect_all(testers: &mut Vec<Comparison>, drawn: &[Vec<Sent>]) -> Result<(), 
     ensures ok { OnOk result (EachExpects (map (λ frames. frames.items) drawn.now) testers.old.items testers.new.items) }
     ensures shape { length testers.new.items ≡ length testers.old.items }
 {
-    for place in 0..testers.len() {
-        testers[place].expect_each(drawn[place].as_slice())?;
+    for index in 0..testers.len() {
+        testers[index].expect_each(drawn[index].as_slice())?;
     }
     Ok(())
 }

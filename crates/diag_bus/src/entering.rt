@@ -28,7 +28,7 @@ impl<'a, S: Sink> Keeper for Entering<'a, S> {
 
     ghost unkept = { λ old new. StaysFor S.is_for S.aim old.sink.now new.sink.now };
 
-    ghost place = { λ entering. entering.sink.ghost_name };
+    ghost target = { λ entering. entering.sink.ghost_name };
 
     #[inline(always)]
     fn keep_request(

@@ -2,7 +2,7 @@
 
 ghost use Rattle.std.specs.Prelude.{◌≡◌, ℕ, List, [], Some, length, slice_get, map};
 ghost use Rattle.diag_tp.specs.declared.sent.Sent.{Sent as ASent};
-ghost use Rattle.diag_bus.specs.Requests.{AreFilled};
+ghost use Rattle.diag_bus.specs.Filled.{AreFilled};
 
 use crate::filled::Filled;
 use diag_tp::Sent;
@@ -17,7 +17,7 @@ pub struct LineFrames {
 }
 
 impl LineFrames {
-    ghost use Rattle.diag_bus.specs.Batch.{lists_of};
+    ghost use Rattle.diag_bus.specs.Node.{lists_of};
 
     /// Empties the lists.
     pub(crate) fn clear(&mut self)
@@ -41,7 +41,7 @@ fn clear(drawn: &mut Vec<Vec<Sent>>, filled: Filled)
 {
     match filled {
         Filled::Nowhere => {}
-        Filled::At(place) => drawn[place].clear(),
+        Filled::At(index) => drawn[index].clear(),
         Filled::Anywhere => clear_all(drawn),
     }
 }

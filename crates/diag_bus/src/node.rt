@@ -9,7 +9,8 @@ ghost use Rattle.diag_tp.specs.declared.sent.Sent.{Sent as ASent};
 ghost use Rattle.diag_setup.specs.declared.raw.RawSetup.{RawSetup};
 ghost use Rattle.diag_world.specs.Server.{closing_time, each_of};
 ghost use Rattle.diag_bus.specs.Events.{frame_said, frame_to};
-ghost use Rattle.diag_bus.specs.Requests.{AreFilled, AreRequestsOf, IsOwner, functional_to, functional_to_all, given};
+ghost use Rattle.diag_bus.specs.Filled.{AreFilled};
+ghost use Rattle.diag_bus.specs.RequestIds.{AreRequestsOf, IsOwner, functional_to, functional_to_all, given};
 
 use crate::entering::Entering;
 use crate::line_frames::LineFrames;
@@ -35,7 +36,7 @@ pub struct Node {
 }
 
 impl Node {
-    ghost use Rattle.diag_bus.specs.Batch.{Gave, HasTime, IsReady, IsRest, Lasts, OneSentIn, OneWentOn, Passed, SameShape, SentIn, TookTime, lists_of};
+    ghost use Rattle.diag_bus.specs.Node.{Gave, HasTime, IsReady, IsRest, Lasts, OneSentIn, OneWentOn, Passed, SameShape, SentIn, TookTime, lists_of};
     ghost use Rattle.diag_bus.specs.Sink.{StaysFor};
     ghost use Rattle.diag_world.specs.Server.{IsEarly};
 

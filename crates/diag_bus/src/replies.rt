@@ -1,10 +1,10 @@
 //! The sink that writes reply lines.
 
 ghost use Rattle.std.specs.Prelude.{◌≡◌, ◌++◌, OnErr, OnOk};
-ghost use Rattle.diag_bus.specs.Batch.{lists_of};
-ghost use Rattle.diag_bus.specs.Requests.{AreNamesOf};
+ghost use Rattle.diag_bus.specs.Node.{lists_of};
 ghost use Rattle.diag_bus.specs.Sink.{IsDrawn};
 ghost use Rattle.diag_bus.specs.Text.{drawn_text};
+ghost use Rattle.diag_bus.specs.Writing.{AreNamesOf};
 
 use crate::clock::Clock;
 use crate::filled::Filled;
@@ -53,9 +53,9 @@ impl Replies {
     {
         match drawn.filled {
             Filled::Nowhere => Ok(()),
-            Filled::At(place) if is_in_order(drawn.lists[place].as_slice()) => {
-                let frames = drawn.lists[place].as_slice();
-                write_own(setup, clock, &mut self.writers, place, frames, text)
+            Filled::At(index) if is_in_order(drawn.lists[index].as_slice()) => {
+                let frames = drawn.lists[index].as_slice();
+                write_own(setup, clock, &mut self.writers, index, frames, text)
             }
             Filled::At(_) | Filled::Anywhere => {
                 let (writers, batch) = (&mut self.writers, &mut self.batch);
@@ -67,8 +67,8 @@ impl Replies {
 
 impl Sink for Replies {
     ghost use Rattle.std.specs.Prelude.{⊤, false};
-    ghost use Rattle.diag_bus.specs.Requests.{AreNamesOf};
     ghost use Rattle.diag_bus.specs.Text.{text_of};
+    ghost use Rattle.diag_bus.specs.Writing.{AreNamesOf};
 
     ghost is_for = { λ replies setup. AreNamesOf setup replies.writers.items };
 

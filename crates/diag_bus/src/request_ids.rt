@@ -3,7 +3,7 @@
 ghost use Rattle.std.specs.Prelude.{◌≡◌, length, IfOk};
 ghost use Rattle.diag_setup.specs.Setup.{known_ids};
 ghost use Rattle.diag_setup.specs.declared.raw.RawSetup.{RawSetup};
-ghost use Rattle.diag_bus.specs.Requests.{AreRequestsOf, IsOwner};
+ghost use Rattle.diag_bus.specs.RequestIds.{AreRequestsOf, IsOwner};
 
 use diag_can::CanId;
 use diag_setup::{Setup, TesterId};

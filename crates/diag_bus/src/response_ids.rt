@@ -1,7 +1,7 @@
 //! To which tester a frame of the unit's own is, by its identifier.
 
 ghost use Rattle.std.specs.Prelude.{◌≡◌, length, IfOk};
-ghost use Rattle.diag_bus.specs.Requests.{AreResponsesOf, IsResponder};
+ghost use Rattle.diag_bus.specs.ResponseIds.{AreResponsesOf, IsResponder};
 
 use diag_can::CanId;
 use diag_setup::{Setup, TesterId};

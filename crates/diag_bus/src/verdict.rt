@@ -15,14 +15,14 @@ pub struct Recorded {
     pub bytes: FrameBytes,
 }
 
-/// A frame of the recording that isn't the one that the server sends at its place.
+/// A frame of the recording that isn't the one that the server sends at its index.
 #[derive(Debug, Drop)]
 pub struct Difference {
     /// The number of its line, from 1.
     pub line: u64,
     /// Its bytes.
     pub sent: FrameBytes,
-    /// The bytes that the server sends at its place; none where the server sends no more.
+    /// The bytes that the server sends at its index; none where the server sends no more.
     pub expected: Option<FrameBytes>,
 }
 

@@ -5,9 +5,10 @@ ghost use Rattle.std.specs.List.{All, flat_map};
 ghost use Rattle.std.specs.List.Sorted.{IsNonDecreasingBy, IsPermutation};
 ghost use Rattle.diag_setup.specs.Rows.{in_order};
 ghost use Rattle.diag_world.specs.Server.{closing_time};
-ghost use Rattle.diag_bus.specs.Batch.{AreSentBy, AreWritable, StartsBelow, moment_end};
-ghost use Rattle.diag_bus.specs.Requests.{AreNamesOf};
+ghost use Rattle.diag_bus.specs.Clock.{StartsBelow, moment_end};
+ghost use Rattle.diag_bus.specs.Node.{AreSentBy};
 ghost use Rattle.diag_bus.specs.Text.{bus_moment, drawn_for, drawn_text, gathered, line_of, own_text, time_of};
+ghost use Rattle.diag_bus.specs.Writing.{AreNamesOf, AreWritable};
 
 use crate::clock::{Clock, Start};
 use diag_can::{Frame, LineWriter};
@@ -120,51 +121,51 @@ pub(crate) fn is_in_order(frames: &[Sent]) -> bool
     true
 }
 
-/// Adds the reply line of a frame that the tester at this place, from 0, is sent. Refused, the text is as it was.
+/// Adds the reply line of a frame that the tester at this index, from 0, is sent. Refused, the text is as it was.
 #[inline(always)]
 fn write_one(
     setup: &Setup,
     clock: &Clock,
     writers: &mut Vec<LineWriter>,
-    place: usize,
+    index: usize,
     sent: &Sent,
     text: &mut Vec<u8>,
 ) -> Result<(), AllocError>
     requires names { AreNamesOf setup.now writers.old.items }
-    requires tester { place < length setup.now.testers }
+    requires tester { index < length setup.now.testers }
     requires start { StartsBelow clock.now.start moment_end }
     requires sent { sent.now.at ≤ closing_time }
     ensures ok { OnOk result
-        (text.new.items ≡ text.old.items ++ line_of setup.now clock.now.start (drawn_for (place + 1) sent.now)) }
+        (text.new.items ≡ text.old.items ++ line_of setup.now clock.now.start (drawn_for (index + 1) sent.now)) }
     ensures err { OnErr result (text.new.items ≡ text.old.items) }
     ensures names { writers.new.items ≡ writers.old.items }
 {
     // (for its contract: the writers are those of its testers)
     let _ = setup;
     let moment = bus_moment(clock.start, sent.at);
-    writers[place].write(text, moment, &sent.frame)
+    writers[index].write(text, moment, &sent.frame)
 }
 
-/// Adds the reply lines of the frames that the tester at this place, from 0, is sent, as they stand. Refused, the text is
+/// Adds the reply lines of the frames that the tester at this index, from 0, is sent, as they stand. Refused, the text is
 /// as it was.
 #[inline(always)]
 pub(crate) fn write_own(
     setup: &Setup,
     clock: &Clock,
     writers: &mut Vec<LineWriter>,
-    place: usize,
+    index: usize,
     frames: &[Sent],
     text: &mut Vec<u8>,
 ) -> Result<(), AllocError>
-    requires { AreWritable setup.now clock.now.start writers.old.items place frames.now }
+    requires { AreWritable setup.now clock.now.start writers.old.items index frames.now }
     ensures ok { OnOk result
-        (text.new.items ≡ text.old.items ++ own_text setup.now clock.now.start place frames.now) }
+        (text.new.items ≡ text.old.items ++ own_text setup.now clock.now.start index frames.now) }
     ensures err { OnErr result (text.new.items ≡ text.old.items) }
     ensures names { writers.new.items ≡ writers.old.items }
 {
     match frames {
-        [sent] => write_one(setup, clock, writers, place, sent, text),
-        _ => write_each(setup, clock, writers, place, frames, text),
+        [sent] => write_one(setup, clock, writers, index, sent, text),
+        _ => write_each(setup, clock, writers, index, frames, text),
     }
 }
 
@@ -174,19 +175,19 @@ fn write_each(
     setup: &Setup,
     clock: &Clock,
     writers: &mut Vec<LineWriter>,
-    place: usize,
+    index: usize,
     frames: &[Sent],
     text: &mut Vec<u8>,
 ) -> Result<(), AllocError>
-    requires { AreWritable setup.now clock.now.start writers.old.items place frames.now }
+    requires { AreWritable setup.now clock.now.start writers.old.items index frames.now }
     ensures ok { OnOk result
-        (text.new.items ≡ text.old.items ++ own_text setup.now clock.now.start place frames.now) }
+        (text.new.items ≡ text.old.items ++ own_text setup.now clock.now.start index frames.now) }
     ensures err { OnErr result (text.new.items ≡ text.old.items) }
     ensures names { writers.new.items ≡ writers.old.items }
 {
     let len = text.len();
     for sent in frames {
-        if let Err(refused) = write_one(setup, clock, writers, place, sent, text) {
+        if let Err(refused) = write_one(setup, clock, writers, index, sent, text) {
             text.truncate(len);
             return Err(refused);
         }
@@ -214,8 +215,8 @@ fn write_batch(
     sort_batch(batch)?;
     let len = text.len();
     for drawn in batch.as_slice() {
-        let place = drawn.who.index();
-        if let Err(refused) = write_one(setup, clock, writers, place, &drawn.sent, text) {
+        let index = drawn.who.index();
+        if let Err(refused) = write_one(setup, clock, writers, index, &drawn.sent, text) {
             text.truncate(len);
             return Err(refused);
         }

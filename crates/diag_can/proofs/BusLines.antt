@@ -6,7 +6,7 @@ use Rattle.std.proofs.lemmas.List.Elements.{All-append, All-cons, All-head, All-
 use Rattle.std.proofs.lemmas.List.Splits.{length-slice_split, slice_split_at, slice_split_none, slice_split-cons_yes, slice_split-cons_no}
 use Rattle.std.proofs.lemmas.Bool.{cases_Bool}
 use Rattle.std.proofs.lemmas.Bool.Decides.{nat_tests}
-use Rattle.diag_can.specs.Bus.{HasNoFeed, begun_line, bus_lines, ended_lines, front_pieces, last_piece, whole_pieces}
+use Rattle.diag_can.specs.BusLine.{HasNoFeed, begun_line, bus_lines, ended_lines, front_pieces, last_piece, whole_pieces}
 use Rattle.diag_can.specs.Log.{is_feed}
 
 abbrev plain_byte : ℕ → Type 0

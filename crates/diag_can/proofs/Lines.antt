@@ -5,7 +5,7 @@ use Rattle.std.proofs.lemmas.Bool.{false_from_ne_true}
 use Rattle.std.proofs.lemmas.Grind.{get_or_default_zero}
 use Rattle.std.proofs.lemmas.List.{drop_more, map-append}
 use Rattle.memchr.specs.Find.{IsFirstByte}
-use Rattle.diag_can.specs.Bus.{HasNoFeed, begun_line, bus_lines, whole_pieces}
+use Rattle.diag_can.specs.BusLine.{HasNoFeed, begun_line, bus_lines, whole_pieces}
 use Rattle.diag_can.specs.Log.{is_feed, without_return, lines_of_pieces, lines_of}
 use Rattle.diag_can.proofs.BusLines.{bus_lines-ended, bus_lines-first, bus_lines-last, bus_lines-more}
 

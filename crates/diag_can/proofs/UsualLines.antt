@@ -10,15 +10,15 @@ use Rattle.std.proofs.lemmas.List.Elements.{All-from_get_or}
 use Rattle.hex.specs.Hex.{is_hex_digit, decode_of}
 use Rattle.hex.proofs.HexLemmas.{decode_of-digits}
 use Rattle.diag_can.specs.Stamp.{is_digit, is_space, is_no_space, behind, behind_run, digits_of, moment_of}
-use Rattle.diag_can.specs.declared.bus.BusLine.TheVariants.{Stamped}
+use Rattle.diag_can.specs.declared.bus_line.BusLine.TheVariants.{Stamped}
 use Rattle.diag_can.specs.Line.{line_says, stamped, stamped_frame, is_time, is_passed_over, is_well_ended, data_frame, frame_data, frame_of, text_frame, id_of}
-use Rattle.diag_can.specs.Bus.{bus_line}
+use Rattle.diag_can.specs.BusLine.{bus_line}
 use Rattle.diag_can.specs.Lanes.{IsRunIn}
 use Rattle.diag_can.specs.Log.{without_return}
 use Rattle.diag_can.specs.FrameText.{EndsInBytes, bytes_or_none, last_bytes, last_digits}
 use Rattle.diag_can.specs.Usual.{IsFramed, IsUsual}
 use Rattle.diag_can.specs.MomentText.{usual_moment}
-use Rattle.diag_can.specs.declared.bus.BusLine.{BusLine}
+use Rattle.diag_can.specs.declared.bus_line.BusLine.{BusLine}
 use Rattle.diag_can.specs.declared.fault.LineFault.TheVariants.{BadLine}
 use Rattle.diag_can.specs.declared.frame.Frame.{Frame}
 use Rattle.diag_can.proofs.Runs.{run-passes}

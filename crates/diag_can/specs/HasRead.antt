@@ -1,6 +1,6 @@
 -- What a reader has read of a log.
 use Rattle.std.specs.Prelude.{◌≡◌, ◌≢◌, ℕ, ◌≤◌, List, [], ◌++◌, length, None, Some, Err}
-use Rattle.diag_can.specs.Bus.{begun_line}
+use Rattle.diag_can.specs.BusLine.{begun_line}
 use Rattle.diag_can.specs.Log.{lines_of, reference, events_after, first_fault, events, most_events}
 use Rattle.diag_can.specs.declared.fault.LogFault.{LogFault}
 use Rattle.diag_can.specs.declared.fault.LogFault.TheVariants.{Memory}

@@ -1,6 +1,6 @@
 -- A text that comes in pieces, and what takes its lines.
 use Rattle.std.specs.Prelude.{◌≡◌, List, ◌++◌, ℕ}
-use Rattle.diag_can.specs.Bus.{HasNoFeed}
+use Rattle.diag_can.specs.BusLine.{HasNoFeed}
 
 -- A front of this text was taken, which is where P held of what was taken before, so Q holds of it and the front; no line
 -- ends in the rest.

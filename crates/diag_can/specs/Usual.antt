@@ -5,7 +5,7 @@ use Rattle.hex.specs.Hex.{is_hex_digit}
 use Rattle.diag_can.specs.MomentText.{usual_moment}
 use Rattle.diag_can.specs.Stamp.{behind, is_digit}
 use Rattle.diag_can.specs.Line.{id_of, is_time, stamped_frame}
-use Rattle.diag_can.specs.Bus.{HasNoFeed}
+use Rattle.diag_can.specs.BusLine.{HasNoFeed}
 use Rattle.diag_can.specs.Lanes.{IsRunIn}
 
 -- three bytes from a place on, weighed as digits are

@@ -2,11 +2,11 @@
 
 ghost use Rattle.std.specs.Prelude.{◌≡◌, ◌-◌, ◌<◌, ◌≤◌, ◌∷◌, ◌⊎◌, length, take, IfSome, MatchOption, Some};
 ghost use Rattle.memchr.specs.Find.{IsFirstByte};
-ghost use Rattle.diag_can.specs.Bus.{HasNoFeed, IsFirst};
+ghost use Rattle.diag_can.specs.BusLine.{HasNoFeed, IsFirstLine};
 ghost use Rattle.diag_can.specs.Line.{tick_count};
 ghost use Rattle.diag_can.specs.Log.{is_feed};
 
-use crate::bus::BusLine;
+use crate::bus_line::BusLine;
 use crate::frame::TickCount;
 use crate::lanes::{hex_of_sixteen, line_run};
 use crate::line::short_id;
@@ -20,7 +20,7 @@ const LONGEST: usize = 48;
 
 /// The first line of a text, which an LF ends.
 #[derive(Drop)]
-pub struct First<'a> {
+pub struct FirstLine<'a> {
     /// The line without its LF.
     pub line: &'a [u8],
     /// What follows the LF.
@@ -45,13 +45,13 @@ fn behind_end(text: &[u8]) -> Option<&[u8]>
 
 /// The first line of a text, which says this, where this follows it.
 #[inline(always)]
-fn told<'a>(text: &'a [u8], after: &'a [u8], said: BusLine<'a>) -> First<'a>
+fn told<'a>(text: &'a [u8], after: &'a [u8], said: BusLine<'a>) -> FirstLine<'a>
     requires { length after.now < length text.now }
     ensures line { result.line.now ≡ take (length text.now - length after.now - 1) text.now }
     ensures after { result.after.now ≡ after.now }
     ensures said { result.said ≡ Some said.entry }
 {
-    First {
+    FirstLine {
         line: &text[..text.len() - after.len() - 1],
         after,
         said: Some(said),
@@ -60,8 +60,8 @@ fn told<'a>(text: &'a [u8], after: &'a [u8], said: BusLine<'a>) -> First<'a>
 
 /// The first line of a text where it is of the usual form: its end is looked for behind the digits.
 #[inline(always)]
-fn usual_front(text: &[u8]) -> Option<First<'_>>
-    ensures { IfSome result (λ first. IsFirst text.now first.line.now first.after.now first.said) }
+fn usual_front(text: &[u8]) -> Option<FirstLine<'_>>
+    ensures { IfSome result (λ first. IsFirstLine text.now first.line.now first.after.now first.said) }
 {
     if text.len() < LONGEST {
         return None;
@@ -98,8 +98,8 @@ fn count_front(text: &[u8]) -> Option<(TickCount, usize)>
 
 /// The first line of a text where it is a well `tick` line: its end is looked for behind its count.
 #[inline(always)]
-fn ticks_front(text: &[u8]) -> Option<First<'_>>
-    ensures { IfSome result (λ first. IsFirst text.now first.line.now first.after.now first.said) }
+fn ticks_front(text: &[u8]) -> Option<FirstLine<'_>>
+    ensures { IfSome result (λ first. IsFirstLine text.now first.line.now first.after.now first.said) }
 {
     let [b't', b'i', b'c', b'k', rest @ ..] = text else {
         return None;
@@ -125,12 +125,12 @@ pub fn line_end(text: &[u8]) -> Option<usize>
 
 /// The first line of a text, whatever it says.
 #[inline(always)]
-fn other_front(text: &[u8]) -> Option<First<'_>>
+fn other_front(text: &[u8]) -> Option<FirstLine<'_>>
     ensures { MatchOption result (HasNoFeed text.now) (λ first.
-        IsFirst text.now first.line.now first.after.now first.said) }
+        IsFirstLine text.now first.line.now first.after.now first.said) }
 {
     let end = line_end(text)?;
-    Some(First {
+    Some(FirstLine {
         line: &text[..end],
         after: &text[end + 1..],
         said: None,
@@ -139,9 +139,9 @@ fn other_front(text: &[u8]) -> Option<First<'_>>
 
 /// The first line of a text, where an LF ends it.
 #[inline(always)]
-pub fn first_line(text: &[u8]) -> Option<First<'_>>
+pub fn first_line(text: &[u8]) -> Option<FirstLine<'_>>
     ensures { MatchOption result (HasNoFeed text.now) (λ first.
-        IsFirst text.now first.line.now first.after.now first.said) }
+        IsFirstLine text.now first.line.now first.after.now first.said) }
 {
     match usual_front(text) {
         Some(first) => Some(first),

@@ -5,7 +5,7 @@ ghost use Rattle.diag_can.specs.Line.{event_for, moment_for};
 ghost use Rattle.diag_can.specs.Log.{event_list, line_gives, without_return, waited, most_events};
 ghost use Rattle.diag_can.specs.Reading.{fault_with, given_at};
 
-use crate::bus::BusLine;
+use crate::bus_line::BusLine;
 use crate::fault::LogFault;
 use crate::frame::{Event, Ids, TickCount};
 use crate::moment_text::MomentText;

@@ -1,14 +1,14 @@
 //! The log of a tester's link, whole or as its lines come.
 
 ghost use Rattle.std.specs.Prelude.{◌≡◌, ◌≢◌, ◌<◌, ◌≤◌, ◌+◌, ℕ, List, [], ◌∷◌, ◌++◌, length, Some, Ok, Err, IfOk, IfSome, IfErr, OnOk, OnErr};
-ghost use Rattle.diag_can.specs.Bus.{HasNoFeed, bus_line};
+ghost use Rattle.diag_can.specs.BusLine.{HasNoFeed, bus_line};
 ghost use Rattle.diag_can.specs.Growing.{GivesMore, HasEvent};
 ghost use Rattle.diag_can.specs.HasRead.{AreRead, HasLines, HasRead};
 ghost use Rattle.diag_can.specs.Log.{events, fault_after, most_events, most_lines, without_return};
 ghost use Rattle.diag_can.specs.Pieces.{TakesLines};
 ghost use Rattle.diag_can.specs.declared.log.Timing.{Timing};
 
-use crate::bus::BusLine;
+use crate::bus_line::BusLine;
 use crate::fault::LogFault;
 use crate::frame::{Event, Ids};
 use crate::front::first_line;

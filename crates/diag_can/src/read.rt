@@ -5,7 +5,7 @@ ghost use Rattle.std.specs.List.{list_all};
 ghost use Rattle.diag_can.specs.Stamp.{is_digit};
 ghost use Rattle.diag_can.specs.Line.{is_decimal, ticks_of, tick_count, stamped, stamped_frame, text_frame, line_says, frame_for, event_for, line_event};
 
-use crate::bus::BusLine;
+use crate::bus_line::BusLine;
 use crate::fault::LineFault;
 use crate::frame::{CanId, Event, Ids, TickCount};
 use crate::frame_text::FrameText;

@@ -8,7 +8,7 @@ ghost use Rattle.diag_can.specs.Stamp.{is_digit};
 ghost use Rattle.diag_can.specs.Usual.{BeginsFramed, IsUsual, three_at};
 ghost use Rattle.diag_can.specs.MomentText.{usual_moment};
 
-use crate::bus::BusLine;
+use crate::bus_line::BusLine;
 use crate::frame::CanId;
 use crate::frame_text::FrameText;
 use crate::lanes::{eight_of_word, is_within};

@@ -6,7 +6,7 @@ use Rattle.hex.proofs.OnLiterals.{hex_on_literals}
 use Rattle.diag_tp.specs.Gives.{gives}
 use Rattle.diag_pdu.specs.Kind.{kind}
 use Rattle.diag_tp.specs.Reception.{open_at}
-use Rattle.diag_can.specs.Bus.{bus_lines}
+use Rattle.diag_can.specs.BusLine.{bus_lines}
 use Rattle.diag_pdu.specs.declared.step.Step.{Step}
 use Rattle.diag_pdu.specs.declared.step.Step.TheVariants as step
 use Rattle.diag_setup.specs.ExampleSetup.{two_testers}

@@ -12,8 +12,8 @@ abbrev pub IsFirst : Kind → Type 0
 IsFirst (Single payload) = Unit {0}
 IsFirst (First len head) = HasHead len head
 IsFirst Overflow = Unit {0}
-IsFirst (Consecutive number part) = Unit {0}
-IsFirst (FlowControl status block gap) = Unit {0}
+IsFirst (Consecutive sequence_number part) = Unit {0}
+IsFirst (FlowControl flow_status block_size st_min) = Unit {0}
 IsFirst Ignored = Unit {0}
 
 first_if : (b : Bool) (x y : Kind) → (b ≡ true → IsFirst x) → (b ≡ false → IsFirst y) → IsFirst (if b then x else y)

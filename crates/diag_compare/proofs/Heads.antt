@@ -23,10 +23,10 @@ use Rattle.diag_exchange.specs.declared.happening.Expected.{Expected}
 use Rattle.diag_exchange.specs.declared.happening.Happening.{Happening}
 use Rattle.diag_exchange.specs.declared.happening.Happening.TheVariants.{Came}
 use Rattle.diag_exchange.specs.declared.happening.Heard.{Heard}
-use Rattle.diag_exchange.specs.declared.happening.Place.{Place}
+use Rattle.diag_exchange.specs.declared.happening.CaptureLine.{CaptureLine}
 use Rattle.diag_exchange.specs.declared.happening.Start.{Start}
 use Rattle.diag_exchange.proofs.Lists.{Each}
-use Rattle.diag_compare.specs.Hearing.{asks, entries_by, entry_happens, happen_after, happenings, is_of, line_happens, place_of, time_of_line, unit_events, unit_frame, unit_side}
+use Rattle.diag_compare.specs.Hearing.{asks, capture_line_of, entries_by, entry_happens, happen_after, happenings, is_of, line_happens, time_of_line, unit_events, unit_frame, unit_side}
 use Rattle.diag_listen.specs.Listening.{all_happen, began, breaks, came, frame_happens, lost_if, receives, unit_happens}
 use Rattle.diag_compare.specs.Meaning.{IsHeaded, messages, messages_after}
 use Rattle.diag_compare.proofs.FirstFrames.{HasHead, IsFirst, first_of_kind}
@@ -57,14 +57,14 @@ lost_heads None true o k = (tt, tt)
 lost_heads (Some s) true o k = (tt, tt)
 lost_heads c false o k = (tt, k)
 
-began_heads : (c : Option Start) (b : Bool) (at : Place) (len t : ℕ) (head : List ℕ) → HasHead len head
+began_heads : (c : Option Start) (b : Bool) (at : CaptureLine) (len t : ℕ) (head : List ℕ) → HasHead len head
     → Heads c (lost_if b ++ began at head ∷ []) (Some (record { len = len; head = head; parts = []; last = t }))
 began_heads None true at len t head h = (tt, record { has = h; first = refl; second = refl })
 began_heads (Some s) true at len t head h = (tt, record { has = h; first = refl; second = refl })
 began_heads None false at len t head h = (tt, record { has = h; first = refl; second = refl })
 began_heads (Some s) false at len t head h = (tt, record { has = h; first = refl; second = refl })
 
-single_heads : (c : Option Start) (b : Bool) (at : Place) (bytes : List ℕ) → Heads c (lost_if b ++ began at bytes ∷ Came bytes ∷ []) None
+single_heads : (c : Option Start) (b : Bool) (at : CaptureLine) (bytes : List ℕ) → Heads c (lost_if b ++ began at bytes ∷ Came bytes ∷ []) None
 single_heads None true at bytes = ((record { first = refl; second = refl }, tt), tt)
 single_heads (Some s) true at bytes = ((record { first = refl; second = refl }, tt), tt)
 single_heads None false at bytes = ((record { first = refl; second = refl }, tt), tt)
@@ -109,10 +109,10 @@ known_part : (c : Option Start) (r : Reception) (part : List ℕ) (t : ℕ) → 
 known_part None r part t k = tt
 known_part (Some s) r part t k = record { has = k.has; first = k.first; second = k.second }
 
-part_heads : (c : Option Start) (o : Option Reception) (t number : ℕ) (part : List ℕ) (b : Bool) → Known c o
-    → Heads c (came (completed (option_and_then (with_part t number part) o)) b) (option_and_then (with_part t number part) o)
-part_heads c None t number part b k = lost_heads c b None (known_none c)
-part_heads c (Some r) t number part b k = next_case (is_next r number part)
+part_heads : (c : Option Start) (o : Option Reception) (t sequence_number : ℕ) (part : List ℕ) (b : Bool) → Known c o
+    → Heads c (came (completed (option_and_then (with_part t sequence_number part) o)) b) (option_and_then (with_part t sequence_number part) o)
+part_heads c None t sequence_number part b k = lost_heads c b None (known_none c)
+part_heads c (Some r) t sequence_number part b k = next_case (is_next r sequence_number part)
   where
     next_case : (n : Bool)
         → Heads c (came (completed (if n then Some (record { len = r.len; head = r.head; parts = r.parts ++ part ∷ []; last = t }) else None)) b)
@@ -124,7 +124,7 @@ part_heads c (Some r) t number part b k = next_case (is_next r number part)
 
 -- ---- an event
 
-module _ (s : LinkSetup) (at : Place) (E : List Event) (c : Option Start) (known : Known c (open_at s (history E))) where
+module _ (s : LinkSetup) (at : CaptureLine) (E : List Event) (c : Option Start) (known : Known c (open_at s (history E))) where
   module _ (bytes : List ℕ) where
     open_is : (k : Kind) → kind bytes s.max_request ≡ k → open_at s (history (E ++ Physical bytes ∷ [])) ≡ with_frame (now (history E)) k (open_at s (history E))
     unfolding open_at
@@ -136,10 +136,10 @@ module _ (s : LinkSetup) (at : Place) (E : List Event) (c : Option Start) (known
     by_kind : (hs : List Happening) (k : Kind) → kind bytes s.max_request ≡ k → Heads c hs (with_frame (now (history E)) k (open_at s (history E))) → Then hs
     by_kind hs k is h = subst (Heads c hs) (sym (open_is k is)) h
 
-    gives_is : (number : ℕ) (part : List ℕ) → kind bytes s.max_request ≡ Consecutive number part
-        → gives s E (Physical bytes) ≡ completed (option_and_then (with_part (now (history E)) number part) (open_at s (history E)))
+    gives_is : (sequence_number : ℕ) (part : List ℕ) → kind bytes s.max_request ≡ Consecutive sequence_number part
+        → gives s E (Physical bytes) ≡ completed (option_and_then (with_part (now (history E)) sequence_number part) (open_at s (history E)))
     unfolding gives open_at
-    gives_is number part is =
+    gives_is sequence_number part is =
         ap (physical_step s (Physical bytes ∷ history E)) is ∙ ap (λ k. completed (with_frame (now (history E)) k (open_at s (history E)))) is
 
     frame_heads : (k : Kind) → kind bytes s.max_request ≡ k → Then (frame_happens s at E bytes k)
@@ -147,13 +147,13 @@ module _ (s : LinkSetup) (at : Place) (E : List Event) (c : Option Start) (known
     frame_heads (First len head) is =
         by_kind _ (First len head) is (began_heads c (receives s E) at len (now (history E)) head (subst IsFirst is (first_of_kind bytes s.max_request)))
     frame_heads Overflow is = by_kind _ Overflow is (lost_heads c (receives s E) None (known_none c))
-    frame_heads (FlowControl status block gap) is = by_kind [] (FlowControl status block gap) is (tt, known)
+    frame_heads (FlowControl flow_status block_size st_min) is = by_kind [] (FlowControl flow_status block_size st_min) is (tt, known)
     frame_heads Ignored is = by_kind [] Ignored is (tt, known)
-    frame_heads (Consecutive number part) is =
-        let h = part_heads c (open_at s (history E)) (now (history E)) number part (breaks s E (Physical bytes)) known in
-        by_kind _ (Consecutive number part) is
-        (subst (λ (o : Option Step). Heads c (came o (breaks s E (Physical bytes))) (option_and_then (with_part (now (history E)) number part)
-        (open_at s (history E)))) (sym (gives_is number part is)) h)
+    frame_heads (Consecutive sequence_number part) is =
+        let h = part_heads c (open_at s (history E)) (now (history E)) sequence_number part (breaks s E (Physical bytes)) known in
+        by_kind _ (Consecutive sequence_number part) is
+        (subst (λ (o : Option Step). Heads c (came o (breaks s E (Physical bytes))) (option_and_then (with_part (now (history E)) sequence_number part)
+        (open_at s (history E)))) (sym (gives_is sequence_number part is)) h)
 
   known_time : (t : ℕ) (o : Option Reception) → Known c o → Known c (option_and_then (in_time s t) o)
   known_time t None k = known_none c
@@ -188,7 +188,7 @@ heads_then c xs ys o first rest = (
   subst (λ (d : Option Start). Known d o) (sym (coming_append c xs ys)) rest.1,
 )
 
-all_heads : (s : LinkSetup) (at : Place) (E es : List Event) (c : Option Start) → Known c (open_at s (history E)) → Each IsOfUnit es
+all_heads : (s : LinkSetup) (at : CaptureLine) (E es : List Event) (c : Option Start) → Known c (open_at s (history E)) → Each IsOfUnit es
     → Heads c (all_happen s at E es) (open_at s (history (E ++ es)))
 all_heads s at E [] c k u = (tt, subst (λ (w : List Event). Known c (open_at s (history w))) (sym (append-nil E)) k)
 all_heads s at E (e ∷ es) c k u =
@@ -203,12 +203,12 @@ module _ (expects : State → Entry → Expected) (setup : RawSetup) (t : ℕ) w
   abbrev side : LinkSetup
   side = unit_side setup t
 
-  asked_heads : (at : Place) (c : Option Start) (x : Step) (e : Expected) (o : Option Reception) → Known c o → Heads c (asks at x e) o
+  asked_heads : (at : CaptureLine) (c : Option Start) (x : Step) (e : Expected) (o : Option Reception) → Known c o → Heads c (asks at x e) o
   asked_heads at None (step.Request r) e o k = (tt, k)
   asked_heads at (Some s) (step.Request r) e o k = (tt, k)
   asked_heads at c (step.Ticks n) e o k = (tt, k)
 
-  entries_heads : (at : Place) (c : Option Start) (es : List (State × Entry)) (o : Option Reception) → Known c o
+  entries_heads : (at : CaptureLine) (c : Option Start) (es : List (State × Entry)) (o : Option Reception) → Known c o
       → Heads c (flat_map (entry_happens expects setup t at) es) o
   entries_heads at c [] o k = (tt, k)
   entries_heads at c (e ∷ es) o k =
@@ -219,7 +219,7 @@ module _ (expects : State → Entry → Expected) (setup : RawSetup) (t : ℕ) w
   line_heads : (past : List (List ℕ)) (line : List ℕ) (c : Option Start) → Known c (open_at side (history (unit_events setup t past)))
       → Heads c (line_happens expects setup t past line) (open_at side (history (unit_events setup t (past ++ line ∷ []))))
   line_heads past line c k =
-      let at = place_of setup past line in
+      let at = capture_line_of setup past line in
       let E = unit_events setup t past in
       let time = time_of_line setup past (line_said setup line) in
       let frame = unit_frame setup t (line_said setup line) in

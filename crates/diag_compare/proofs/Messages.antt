@@ -7,8 +7,8 @@ use Rattle.std.specs.List.{filter, flat_map}
 use Rattle.std.specs.Option.{option_to_list}
 use Rattle.std.specs.Prelude.{Result, Ok, Err, if◌then◌else◌, is_some, nat_lt, not, option_and_then, ◌==◌, ◌&&◌}
 use Rattle.diag_can.specs.Log.{silence, waited}
-use Rattle.diag_can.specs.declared.bus.BusLine.{BusLine}
-use Rattle.diag_can.specs.declared.bus.BusLine.TheVariants as said
+use Rattle.diag_can.specs.declared.bus_line.BusLine.{BusLine}
+use Rattle.diag_can.specs.declared.bus_line.BusLine.TheVariants as said
 use Rattle.diag_can.specs.declared.fault.LineFault.{LineFault}
 use Rattle.diag_can.specs.declared.frame.Event.{Event}
 use Rattle.diag_can.specs.declared.frame.Event.TheVariants.{Physical, Functional, Ticks}
@@ -33,10 +33,10 @@ use Rattle.diag_exchange.specs.Asking.{comes_in, coming_after, completes}
 use Rattle.diag_exchange.specs.declared.happening.Expected.{Expected}
 use Rattle.diag_exchange.specs.declared.happening.Happening.{Happening}
 use Rattle.diag_exchange.specs.declared.happening.Happening.TheVariants.{Came}
-use Rattle.diag_exchange.specs.declared.happening.Place.{Place}
+use Rattle.diag_exchange.specs.declared.happening.CaptureLine.{CaptureLine}
 use Rattle.diag_exchange.specs.declared.happening.Start.{Start}
 use Rattle.diag_exchange.proofs.Lists.{Each}
-use Rattle.diag_compare.specs.Hearing.{asks, entries_by, entry_happens, frame_with, happen_after, happenings, is_of, line_happens, place_of, time_of_line, unit_after, unit_events, unit_frame, unit_side}
+use Rattle.diag_compare.specs.Hearing.{asks, capture_line_of, entries_by, entry_happens, frame_with, happen_after, happenings, is_of, line_happens, time_of_line, unit_after, unit_events, unit_frame, unit_side}
 use Rattle.diag_listen.specs.Listening.{all_happen, began, breaks, came, frame_happens, is_unfinished, lost_if, receives, unit_happens}
 use Rattle.diag_compare.proofs.FirstFrames.{IsFirst, first_of_kind}
 use Rattle.diag_compare.specs.Meaning.{bytes_heard, message_given, messages_after}
@@ -75,13 +75,13 @@ lost_coming : (c : Option Start) (b : Bool) → is_some c ≡ b → is_some (com
 lost_coming c true e = refl
 lost_coming c false e = e
 
-lost_begins : (c : Option Start) (b : Bool) (at : Place) (bytes : List ℕ) → Gives c (lost_if b ++ began at bytes ∷ []) None true
+lost_begins : (c : Option Start) (b : Bool) (at : CaptureLine) (bytes : List ℕ) → Gives c (lost_if b ++ began at bytes ∷ []) None true
 lost_begins None true at bytes = (refl, refl)
 lost_begins (Some s) true at bytes = (refl, refl)
 lost_begins None false at bytes = (refl, refl)
 lost_begins (Some s) false at bytes = (refl, refl)
 
-lost_single : (c : Option Start) (b : Bool) (at : Place) (bytes : List ℕ) → Gives c (lost_if b ++ began at bytes ∷ Came bytes ∷ [])
+lost_single : (c : Option Start) (b : Bool) (at : CaptureLine) (bytes : List ℕ) → Gives c (lost_if b ++ began at bytes ∷ Came bytes ∷ [])
     (Some (step.Request (request_of false bytes))) false
 lost_single None true at bytes = (refl, refl)
 lost_single (Some s) true at bytes = (refl, refl)
@@ -112,18 +112,18 @@ whole_case c r u e is few false whole =
     let none : (u && not (is_unfinished (Some r))) ≡ false = ap₂ (λ a b. a && not b) is more in
     (ap (λ (b : Bool). heard c (lost_if b)) none, ap (λ (b : Bool). is_some (coming_after c (lost_if b))) none ∙ (e ∙ sym more))
 
-next_below : (r : Reception) (number : ℕ) (part : List ℕ) → is_next r number part ≡ true → nat_lt (length r.parts) (consecutive_count r.len) ≡ true
-next_below r number part e = grind arith
+next_below : (r : Reception) (sequence_number : ℕ) (part : List ℕ) → is_next r sequence_number part ≡ true → nat_lt (length r.parts) (consecutive_count r.len) ≡ true
+next_below r sequence_number part e = grind arith
 
 one_further : (r : Reception) (part : List ℕ) → nat_lt (length r.parts) (consecutive_count r.len) ≡ true
     → length (r.parts ++ part ∷ []) ≤ consecutive_count r.len
 one_further r part e = let more = length-append r.parts (part ∷ []) in grind (arith, nat_tests)
 
-module _ (t number : ℕ) (part : List ℕ) where
+module _ (t sequence_number : ℕ) (part : List ℕ) where
   abbrev then_is : Option Reception → Option Reception
-  then_is o = option_and_then (with_part t number part) o
+  then_is o = option_and_then (with_part t sequence_number part) o
 
-  part_case : (c : Option Start) (r : Reception) → is_some c ≡ is_unfinished (Some r) → (b : Bool) → is_next r number part ≡ b
+  part_case : (c : Option Start) (r : Reception) → is_some c ≡ is_unfinished (Some r) → (b : Bool) → is_next r sequence_number part ≡ b
       → (o : Option Reception) → o ≡ (if b then Some (record { len = r.len; head = r.head; parts = r.parts ++ part ∷ []; last = t }) else None)
       → Gives c (came (completed o) (is_unfinished (Some r) && not (is_unfinished o))) (completed o) (is_unfinished o)
   part_case c r e false other o is =
@@ -131,18 +131,18 @@ module _ (t number : ℕ) (part : List ℕ) where
       (lost_by c (is_unfinished (Some r)) false e refl)
   part_case c r e true next o is =
       let more : Reception = record { len = r.len; head = r.head; parts = r.parts ++ part ∷ []; last = t } in
-      let below : is_unfinished (Some r) ≡ true = next_below r number part next in
+      let below : is_unfinished (Some r) ≡ true = next_below r sequence_number part next in
       subst (λ (o : Option Reception). Gives c (came (completed o) (is_unfinished (Some r) && not (is_unfinished o))) (completed o) (is_unfinished o)) (sym is)
       (whole_case c more (is_unfinished (Some r)) (e ∙ below) below (one_further r part below) (is_whole more) refl)
 
   parts_of : (c : Option Start) (o : Option Reception) → is_some c ≡ is_unfinished o
       → Gives c (came (completed (then_is o)) (is_unfinished o && not (is_unfinished (then_is o)))) (completed (then_is o)) (is_unfinished (then_is o))
   parts_of c None e = (refl, e)
-  parts_of c (Some r) e = part_case c r e (is_next r number part) refl (then_is (Some r)) refl
+  parts_of c (Some r) e = part_case c r e (is_next r sequence_number part) refl (then_is (Some r)) refl
 
 -- ---- a frame
 
-module _ (s : LinkSetup) (at : Place) (E : List Event) (c : Option Start) (own : is_some c ≡ receives s E) where
+module _ (s : LinkSetup) (at : CaptureLine) (E : List Event) (c : Option Start) (own : is_some c ≡ receives s E) where
   abbrev Steps : Event → List Happening → Type 0
   Steps e hs = Gives c hs (gives s E e) (receives s (E ++ e ∷ []))
 
@@ -171,13 +171,13 @@ module _ (s : LinkSetup) (at : Place) (E : List Event) (c : Option Start) (own :
         let g = lost_begins c (receives s E) at head in
         by_values (frame_happens s at E bytes (First len head)) (First len head) is (g.0, g.1 ∙ sym long)
     frame_gives Overflow is = by_values (lost_if (receives s E)) Overflow is (lost_heard c (receives s E), lost_coming c (receives s E) own)
-    frame_gives (FlowControl status block gap) is = by_values [] (FlowControl status block gap) is (refl, own)
+    frame_gives (FlowControl flow_status block_size st_min) is = by_values [] (FlowControl flow_status block_size st_min) is (refl, own)
     frame_gives Ignored is = by_values [] Ignored is (refl, own)
-    frame_gives (Consecutive number part) is =
+    frame_gives (Consecutive sequence_number part) is =
         let o = open_at s (history E) in
-        let g = parts_of (now (history E)) number part c o own in
-        let given = gives_is (Consecutive number part) is ∙ ap completed (open_is (Consecutive number part) is) in
-        let received = receives_is (Consecutive number part) is in
+        let g = parts_of (now (history E)) sequence_number part c o own in
+        let given = gives_is (Consecutive sequence_number part) is ∙ ap completed (open_is (Consecutive sequence_number part) is) in
+        let received = receives_is (Consecutive sequence_number part) is in
         let same = ap₂ (λ (o : Option Step) (b : Bool). came o (receives s E && not b)) given received in (
           ap (heard c) same ∙ (g.0 ∙ ap (λ o. flat_map message_given (option_to_list o)) (sym given)),
           ap (λ hs. is_some (coming_after c hs)) same ∙ (g.1 ∙ sym received),
@@ -232,7 +232,7 @@ IsOfUnit (Physical bytes) = Unit {0}
 IsOfUnit (Functional bytes) = ⊥
 IsOfUnit (Ticks n) = Unit {0}
 
-of_unit : (s : LinkSetup) (at : Place) (E : List Event) (c : Option Start) → is_some c ≡ receives s E → (e : Event) → IsOfUnit e
+of_unit : (s : LinkSetup) (at : CaptureLine) (E : List Event) (c : Option Start) → is_some c ≡ receives s E → (e : Event) → IsOfUnit e
     → Gives c (unit_happens s at E e) (gives s E e) (receives s (E ++ e ∷ []))
 of_unit s at E c own (Physical bytes) u = unit_gives s at E c own (Physical bytes) tt
 of_unit s at E c own (Functional bytes) u = absurd u
@@ -246,7 +246,7 @@ flat_append f (x ∷ xs) ys = ap (λ w. f x ++ w) (flat_append f xs ys) ∙ sym 
 abbrev GivesAll : LinkSetup → Option Start → List Happening → List Event → List Event → Type 0
 GivesAll s c hs E es = (heard c hs ≡ flat_map message_given (steps_after s E es)) × (is_some (coming_after c hs) ≡ receives s (E ++ es))
 
-all_give : (s : LinkSetup) (at : Place) (E es : List Event) (c : Option Start) → is_some c ≡ receives s E → Each IsOfUnit es
+all_give : (s : LinkSetup) (at : CaptureLine) (E es : List Event) (c : Option Start) → is_some c ≡ receives s E → Each IsOfUnit es
     → GivesAll s c (all_happen s at E es) E es
 all_give s at E [] c own u = (refl, own ∙ ap (receives s) (sym (append-nil E)))
 all_give s at E (e ∷ es) c own u =
@@ -306,12 +306,12 @@ module _ (expects : State → Entry → Expected) (setup : RawSetup) (t : ℕ) w
   abbrev side : LinkSetup
   side = unit_side setup t
 
-  asked_heard : (at : Place) (c : Option Start) (x : Step) (e : Expected) → (heard c (asks at x e) ≡ []) × (coming_after c (asks at x e) ≡ c)
+  asked_heard : (at : CaptureLine) (c : Option Start) (x : Step) (e : Expected) → (heard c (asks at x e) ≡ []) × (coming_after c (asks at x e) ≡ c)
   asked_heard at None (step.Request r) e = (refl, refl)
   asked_heard at (Some s) (step.Request r) e = (refl, refl)
   asked_heard at c (step.Ticks n) e = (refl, refl)
 
-  entries_heard : (at : Place) (c : Option Start) (es : List (State × Entry))
+  entries_heard : (at : CaptureLine) (c : Option Start) (es : List (State × Entry))
       → (heard c (flat_map (entry_happens expects setup t at) es) ≡ []) × (coming_after c (flat_map (entry_happens expects setup t at) es) ≡ c)
   entries_heard at c [] = (refl, refl)
   entries_heard at c (e ∷ es) =
@@ -337,7 +337,7 @@ module _ (expects : State → Entry → Expected) (setup : RawSetup) (t : ℕ) w
   line_heard : (past : List (List ℕ)) (line : List ℕ) (c : Option Start) → is_some c ≡ receives side (unit_events setup t past)
       → GivesAll side c (line_happens expects setup t past line) (unit_events setup t past) (line_gives past line)
   line_heard past line c own =
-      let at = place_of setup past line in
+      let at = capture_line_of setup past line in
       let E = unit_events setup t past in
       let time = time_of_line setup past (line_said setup line) in
       let frame = unit_frame setup t (line_said setup line) in

@@ -26,11 +26,11 @@ use Rattle.diag_exchange.specs.declared.happening.Expected.{Expected}
 use Rattle.diag_exchange.specs.declared.happening.Happening.{Happening}
 use Rattle.diag_exchange.specs.declared.happening.Happening.TheVariants.{Asked, Began, Came, Lost}
 use Rattle.diag_exchange.specs.declared.happening.Heard.{Heard}
-use Rattle.diag_exchange.specs.declared.happening.Place.{Place}
-use Rattle.diag_exchange.specs.declared.happening.Request.{Request}
+use Rattle.diag_exchange.specs.declared.happening.CaptureLine.{CaptureLine}
+use Rattle.diag_exchange.specs.declared.happening.AskedRequest.{AskedRequest}
 use Rattle.diag_exchange.specs.declared.happening.Start.{Start}
 use Rattle.diag_exchange.proofs.Lists.{change_last_here, change_later, change_not_here}
-use Rattle.diag_compare.specs.Hearing.{asks, entries_by, entry_happens, happen_after, happenings, in_states, is_of, line_happens, place_of, time_of_line, unit_events, unit_frame, unit_side}
+use Rattle.diag_compare.specs.Hearing.{asks, capture_line_of, entries_by, entry_happens, happen_after, happenings, in_states, is_of, line_happens, time_of_line, unit_events, unit_frame, unit_side}
 use Rattle.diag_listen.specs.Listening.{all_happen, breaks, came, frame_happens, lost_if, receives, unit_happens}
 use Rattle.diag_compare.specs.Meaning.{Question, entry_question, question, question_of}
 
@@ -54,7 +54,7 @@ module _ (p : Course → Bool) (f : Course → Course) (same : (c : Course) → 
   same_questions [] = refl
   same_questions (c ∷ cs) = same_case c cs (same_questions cs) (list_any p cs) (p c) refl refl
 
-behind_questions : (r : Request) (cs : List Course) → map question (map (and_behind r) cs) ≡ map question cs
+behind_questions : (r : AskedRequest) (cs : List Course) → map question (map (and_behind r) cs) ≡ map question cs
 behind_questions r [] = refl
 behind_questions r (c ∷ cs) = ap (λ w. question c ∷ w) (behind_questions r cs)
 
@@ -100,20 +100,20 @@ came_asks None b = lost_asks b
 came_asks (Some (step.Request r)) b = refl
 came_asks (Some (step.Ticks n)) b = lost_asks b
 
-frame_asks : (s : LinkSetup) (at : Place) (E : List Event) (bytes : List ℕ) (pci : Kind) → questions (frame_happens s at E bytes pci) ≡ []
+frame_asks : (s : LinkSetup) (at : CaptureLine) (E : List Event) (bytes : List ℕ) (pci : Kind) → questions (frame_happens s at E bytes pci) ≡ []
 frame_asks s at E bytes (Single payload) = flat_append asked_one (lost_if (receives s E)) _ ∙ ap (λ w. w ++ []) (lost_asks (receives s E))
 frame_asks s at E bytes (First len head) = flat_append asked_one (lost_if (receives s E)) _ ∙ ap (λ w. w ++ []) (lost_asks (receives s E))
 frame_asks s at E bytes Overflow = lost_asks (receives s E)
-frame_asks s at E bytes (Consecutive number part) = came_asks (gives s E (Physical bytes)) (breaks s E (Physical bytes))
-frame_asks s at E bytes (FlowControl status block gap) = refl
+frame_asks s at E bytes (Consecutive sequence_number part) = came_asks (gives s E (Physical bytes)) (breaks s E (Physical bytes))
+frame_asks s at E bytes (FlowControl flow_status block_size st_min) = refl
 frame_asks s at E bytes Ignored = refl
 
-unit_asks : (s : LinkSetup) (at : Place) (E : List Event) (e : Event) → questions (unit_happens s at E e) ≡ []
+unit_asks : (s : LinkSetup) (at : CaptureLine) (E : List Event) (e : Event) → questions (unit_happens s at E e) ≡ []
 unit_asks s at E (Physical bytes) = frame_asks s at E bytes (kind bytes s.max_request)
 unit_asks s at E (Functional bytes) = refl
 unit_asks s at E (Ticks n) = lost_asks (breaks s E (Ticks n))
 
-all_ask : (s : LinkSetup) (at : Place) (E es : List Event) → questions (all_happen s at E es) ≡ []
+all_ask : (s : LinkSetup) (at : CaptureLine) (E es : List Event) → questions (all_happen s at E es) ≡ []
 all_ask s at E [] = refl
 all_ask s at E (e ∷ es) = flat_append asked_one (unit_happens s at E e) (all_happen s at (E ++ e ∷ []) es)
     ∙ ap₂ (λ (x y : List Question). x ++ y) (unit_asks s at E e) (all_ask s at (E ++ e ∷ []) es)
@@ -156,11 +156,11 @@ module _ (setup : RawSetup) where
 -- ---- all lines
 
 module _ (expects : State → Entry → Expected) (setup : RawSetup) (t : ℕ) where
-  one_asks : (at : Place) (x : Step) (e : Expected) → questions (asks at x e) ≡ question_of x e
+  one_asks : (at : CaptureLine) (x : Step) (e : Expected) → questions (asks at x e) ≡ question_of x e
   one_asks at (step.Request r) e = refl
   one_asks at (step.Ticks n) e = refl
 
-  entries_ask : (at : Place) (es : List (State × Entry)) → questions (flat_map (entry_happens expects setup t at) es) ≡ flat_map (entry_question expects) es
+  entries_ask : (at : CaptureLine) (es : List (State × Entry)) → questions (flat_map (entry_happens expects setup t at) es) ≡ flat_map (entry_question expects) es
   entries_ask at [] = refl
   entries_ask at (e ∷ es) =
       flat_append asked_one (asks at e.1.step (expects e.0 e.1)) (flat_map (entry_happens expects setup t at) es)
@@ -171,7 +171,7 @@ module _ (expects : State → Entry → Expected) (setup : RawSetup) (t : ℕ) w
 
   line_asks : (past : List (List ℕ)) (line : List ℕ) → questions (line_happens expects setup t past line) ≡ own_of (entries_by setup past line)
   line_asks past line =
-      let at = place_of setup past line in
+      let at = capture_line_of setup past line in
       let E = unit_events setup t past in
       let time = time_of_line setup past (line_said setup line) in
       let first = all_happen (unit_side setup t) at E time in

@@ -11,7 +11,7 @@ use Rattle.diag_desk.specs.Legal.{after_step}
 use Rattle.diag_desk.specs.declared.entry.Entry.{Entry}
 use Rattle.diag_bus.specs.Events.{events_of}
 use Rattle.diag_bus.specs.Text.{run_of}
-use Rattle.diag_bus.specs.Verdict.{IsPlace}
+use Rattle.diag_bus.specs.Verdict.{IsNumber}
 use Rattle.diag_exchange.specs.Asking.{Course, courses}
 use Rattle.diag_compare.specs.Compare.{status}
 use Rattle.diag_compare.specs.Expects.{expects, step_expects}
@@ -51,14 +51,14 @@ module _ (setup : RawSetup) (t : ℕ) where
           (step_same s e.who e.step e.reply) ∙ ap (λ w. entry_answer e ++ w) rest)
       pick false rest = rest
 
-pub agreed_with_run : (setup : RawSetup) (lines : List (List ℕ)) (t : ℕ) → status (expects setup) setup lines ≡ 0 → IsPlace setup t
+pub agreed_with_run : (setup : RawSetup) (lines : List (List ℕ)) (t : ℕ) → status (expects setup) setup lines ≡ 0 → IsNumber setup t
     → AgreesWithRun setup lines t
-agreed_with_run setup lines t zero place =
+agreed_with_run setup lines t zero number =
     let all = all_agreed (expects setup) setup lines zero in
     record {
       run = asks_answer (courses (happenings (expects setup) setup t lines))
           ∙ (ap (map without_marks) (asked_are (expects setup) setup t lines)
           ∙ entries_same setup t (opening setup) (run_of setup (events_of setup lines)));
-      answered = all.answered t place;
-      asked = all.asked t place;
+      answered = all.answered t number;
+      asked = all.asked t number;
     }

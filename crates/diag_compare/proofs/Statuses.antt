@@ -9,7 +9,7 @@ use Rattle.diag_pdu.specs.Cut.{counted_from}
 use Rattle.diag_setup.specs.declared.raw.RawSetup.{RawSetup}
 use Rattle.diag_ecu.specs.State.{State}
 use Rattle.diag_desk.specs.declared.entry.Entry.{Entry}
-use Rattle.diag_bus.specs.Verdict.{IsPlace}
+use Rattle.diag_bus.specs.Verdict.{IsNumber}
 use Rattle.diag_exchange.specs.Agreeing.{agrees, is_compared}
 use Rattle.diag_exchange.specs.Asking.{Course, courses}
 use Rattle.diag_exchange.specs.Exchanges.{exchange}
@@ -91,18 +91,18 @@ module _ (expects : State → Entry → Expected) (setup : RawSetup) (lines : Li
   tests : (any_differs expects setup lines ≡ false) × (compares_nothing expects setup lines ≡ false)
   tests = false_of (any_differs expects setup lines) (compares_nothing expects setup lines) zero_status
 
-  all_of : (t : ℕ) → IsPlace setup t → All (λ o. agrees o ≡ true) (exchanges expects setup lines t)
-  all_of t place = all_agree (exchanges expects setup lines t)
-      (none_differs (exchanges expects setup lines) 1 (length setup.testers) tests.0 t place.0 (omega (arith, place.1)))
+  all_of : (t : ℕ) → IsNumber setup t → All (λ o. agrees o ≡ true) (exchanges expects setup lines t)
+  all_of t number = all_agree (exchanges expects setup lines t)
+      (none_differs (exchanges expects setup lines) 1 (length setup.testers) tests.0 t number.0 (omega (arith, number.1)))
 
   pub all_agreed : AllAgree expects setup lines
   all_agreed = record {
-    answered = λ t place.
+    answered = λ t number.
         let hs = happenings expects setup t lines in
         let told = exchanges expects setup lines t in
         of_map (courses hs) (All-permutation (λ o. agrees o ≡ true) (filter is_exchange told) (map exchange (courses hs))
         (IsPermutation-sym (map exchange (courses hs)) (filter is_exchange told) (told_once hs)) (All-filter is_exchange (λ o. agrees o ≡ true) told
-        (all_of t place)));
-    asked = λ t place. All-weaker (λ o. agrees o ≡ true) (λ o. is_exchange o ≡ true) is_asked (exchanges expects setup lines t) (all_of t place);
+        (all_of t number)));
+    asked = λ t number. All-weaker (λ o. agrees o ≡ true) (λ o. is_exchange o ≡ true) is_asked (exchanges expects setup lines t) (all_of t number);
     some = something (any_differs expects setup lines) (list_any is_compared (all_exchanges expects setup lines)) tests.0 tests.1;
   }

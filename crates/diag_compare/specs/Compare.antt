@@ -7,7 +7,7 @@ use Rattle.diag_setup.specs.Setup.{name_of}
 use Rattle.diag_setup.specs.declared.raw.RawSetup.{RawSetup}
 use Rattle.diag_ecu.specs.State.{State}
 use Rattle.diag_desk.specs.declared.entry.Entry.{Entry}
-use Rattle.diag_bus.specs.Verdict.{places}
+use Rattle.diag_bus.specs.Verdict.{numbers}
 use Rattle.diag_exchange.specs.Agreeing.{is_compared}
 use Rattle.diag_exchange.specs.Exchanges.{left_open, over, over_at_end}
 use Rattle.diag_exchange.specs.declared.happening.Expected.{Expected}
@@ -50,7 +50,7 @@ module _ (expects : State → Entry → Expected) (setup : RawSetup) where
         flat_map (told_line setup lines) (filter (is_told differences) (in_order line_number told))
 
     abbrev pub compared_by : List (List ℕ) → List ℕ → List ℕ
-    compared_by past line = lines_of (past ++ line ∷ []) (flat_map (over_by past line) (places setup))
+    compared_by past line = lines_of (past ++ line ∷ []) (flat_map (over_by past line) (numbers setup))
 
     abbrev pub compared_after : List (List ℕ) → List (List ℕ) → List ℕ
     compared_after past [] = []
@@ -63,7 +63,7 @@ module _ (expects : State → Entry → Expected) (setup : RawSetup) where
   -- ---- at the end
 
   abbrev pub all_exchanges : List (List ℕ) → List Over
-  all_exchanges lines = flat_map (exchanges lines) (places setup)
+  all_exchanges lines = flat_map (exchanges lines) (numbers setup)
 
   -- something differs
   abbrev pub any_differs : List (List ℕ) → Bool
@@ -79,8 +79,8 @@ module _ (expects : State → Entry → Expected) (setup : RawSetup) where
 
   -- what the end of a capture adds
   abbrev pub closing : Bool → List (List ℕ) → List ℕ
-  closing differences lines = lines_of differences lines (flat_map (open_for lines) (places setup))
-      ++ flat_map (count_line lines) (places setup)
+  closing differences lines = lines_of differences lines (flat_map (open_for lines) (numbers setup))
+      ++ flat_map (count_line lines) (numbers setup)
       ++ last_line (compares_nothing lines)
 
   -- all that is written for a capture without a fault

@@ -1,7 +1,7 @@
 -- What a capture has of the unit's messages to a tester, and of the tester's requests, in the order of the bus.
 use Rattle.std.specs.Prelude.{ℕ, ◌+◌, ◌==◌, Bool, if◌then◌else◌, List, [], ◌∷◌, ◌++◌, length, drop, filter, Option, Some, None, Result, Ok, Err}
 use Rattle.std.specs.List.{flat_map}
-use Rattle.diag_can.specs.declared.bus.BusLine.{BusLine}
+use Rattle.diag_can.specs.declared.bus_line.BusLine.{BusLine}
 use Rattle.diag_can.specs.declared.fault.LineFault.{LineFault}
 use Rattle.diag_can.specs.declared.frame.Event.{Event}
 use Rattle.diag_can.specs.declared.frame.Event.TheVariants.{Physical}
@@ -19,12 +19,12 @@ use Rattle.diag_bus.specs.Text.{ecu_after, run_of}
 use Rattle.diag_exchange.specs.declared.happening.Expected.{Expected}
 use Rattle.diag_exchange.specs.declared.happening.Happening.{Happening}
 use Rattle.diag_exchange.specs.declared.happening.Happening.TheVariants.{Asked}
-use Rattle.diag_exchange.specs.declared.happening.Place.{Place}
+use Rattle.diag_exchange.specs.declared.happening.CaptureLine.{CaptureLine}
 use Rattle.diag_listen.specs.Listening.{all_happen}
 
 -- the line behind these, and the bus's time of it
-abbrev pub place_of : RawSetup → List (List ℕ) → List ℕ → Place
-place_of setup past line = record { line = length past + 1; moment = clock_of setup (past ++ line ∷ []) }
+abbrev pub capture_line_of : RawSetup → List (List ℕ) → List ℕ → CaptureLine
+capture_line_of setup past line = record { number = length past + 1; moment = clock_of setup (past ++ line ∷ []) }
 
 -- ---- the unit's side
 
@@ -70,7 +70,7 @@ entries_by setup past line = in_states (ecu_after setup past)
 abbrev pub is_of : ℕ → State × Entry → Bool
 is_of t e = e.1.who == t
 
-abbrev pub asks : Place → Step → Expected → List Happening
+abbrev pub asks : CaptureLine → Step → Expected → List Happening
 asks at (step.Request request) expected = Asked (record {
   at = at;
   functional = request.functional;
@@ -83,13 +83,13 @@ asks at (step.Ticks n) expected = []
 
 -- `expects` says what the server makes of a request, and how it is compared
 module _ (expects : State → Entry → Expected) (setup : RawSetup) (t : ℕ) where
-  abbrev pub entry_happens : Place → State × Entry → List Happening
+  abbrev pub entry_happens : CaptureLine → State × Entry → List Happening
   entry_happens at e = asks at e.1.step (expects e.0 e.1)
 
   -- what a line is to a tester: what ends by its time, the request that it completes, and what its frame is to a message
   abbrev pub line_happens : List (List ℕ) → List ℕ → List Happening
   line_happens past line =
-      let at = place_of setup past line in
+      let at = capture_line_of setup past line in
       let E = unit_events setup t past in
       let time = time_of_line setup past (line_said setup line) in
       all_happen (unit_side setup t) at E time

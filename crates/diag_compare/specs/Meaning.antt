@@ -10,7 +10,7 @@ use Rattle.diag_ecu.specs.State.{State, opening}
 use Rattle.diag_desk.specs.declared.entry.Entry.{Entry}
 use Rattle.diag_bus.specs.Events.{events_of}
 use Rattle.diag_bus.specs.Text.{run_of}
-use Rattle.diag_bus.specs.Verdict.{IsPlace}
+use Rattle.diag_bus.specs.Verdict.{IsNumber}
 use Rattle.diag_exchange.specs.Agreeing.{is_compared}
 use Rattle.diag_exchange.specs.Asking.{Course, comes_in, completes, courses}
 use Rattle.diag_exchange.specs.Exchanges.{exchange}
@@ -49,8 +49,8 @@ module _ (expects : State → Entry → Expected) (setup : RawSetup) (lines : Li
   -- the server's reply is what the unit sent to each request of each tester, but where the request is ignored, for
   -- bytes that vary and for the order of records; it sent nothing unasked, and something that is compared
   pub record AllAgree : Type 0 where
-    pub answered : (t : ℕ) → IsPlace setup t → All (λ c. Means (exchange c)) (courses (happenings expects setup t lines))
-    pub asked : (t : ℕ) → IsPlace setup t → All (λ o. is_exchange o ≡ true) (exchanges expects setup lines t)
+    pub answered : (t : ℕ) → IsNumber setup t → All (λ c. Means (exchange c)) (courses (happenings expects setup t lines))
+    pub asked : (t : ℕ) → IsNumber setup t → All (λ o. is_exchange o ≡ true) (exchanges expects setup lines t)
     pub some : list_any is_compared (all_exchanges expects setup lines) ≡ true
 
 -- that is what a status of 0 means
@@ -91,7 +91,7 @@ pub record AgreesWithRun (setup : RawSetup) (lines : List (List ℕ)) (t : ℕ) 
 abbrev pub AgreedLaw : Type 0
 AgreedLaw = (setup : RawSetup) (lines : List (List ℕ)) (t : ℕ)
     → status (expects setup) setup lines ≡ 0
-    → IsPlace setup t
+    → IsNumber setup t
     → AgreesWithRun setup lines t
 
 -- ---- what was heard

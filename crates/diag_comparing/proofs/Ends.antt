@@ -9,17 +9,17 @@ use Rattle.std.specs.Prelude.{◌&&◌, ◌||◌, if◌then◌else◌, nat_lt, n
 use Rattle.diag_pdu.specs.Cut.{counted_from}
 use Rattle.diag_setup.specs.Setup.{name_of}
 use Rattle.diag_setup.specs.declared.raw.RawSetup.{RawSetup}
-use Rattle.diag_bus.specs.Verdict.{places}
+use Rattle.diag_bus.specs.Verdict.{numbers}
 use Rattle.diag_exchange.specs.Agreeing.{is_compared}
 use Rattle.diag_exchange.specs.declared.happening.Over.{Over}
-use Rattle.diag_judge.specs.Judging.{EndsCounted, EndsTold, differs}
+use Rattle.diag_judge.specs.Judging.{EndsCounted, EndsJudged, differs}
 use Rattle.diag_judge.specs.declared.tester.Counts.{Counts}
 use Rattle.diag_judge.specs.declared.tester.Tester.{Tester}
-use Rattle.diag_judge.specs.declared.tester.Told.{Told}
+use Rattle.diag_judge.specs.declared.tester.Judged.{Judged}
 use Rattle.diag_compare.specs.Compare.{any_differs, compares_nothing, count_line, exchanges, open_for, status}
 use Rattle.diag_compare.specs.Expects.{expects}
 use Rattle.diag_compare.specs.Hearing.{happenings, unit_events}
-use Rattle.diag_comparing.specs.Keeping.{IsTester, all_counts, count_lines, count_text, nothing_in, some_compared, some_differ, status_in, tester_counts, told_pair}
+use Rattle.diag_comparing.specs.Keeping.{IsTester, all_counts, count_lines, count_text, judged_pair, nothing_in, some_compared, some_differ, status_in, tester_counts}
 use Rattle.diag_comparing.proofs.Takings.{counted_next, flat_append, pairs_of}
 
 -- ---- counts
@@ -49,10 +49,10 @@ module _ (setup : RawSetup) (lines : List (List ℕ)) where
   compared_all (t ∷ ts) = ap (λ b. list_any is_compared (of t) || b) (compared_all ts) ∙ sym (list_any-append is_compared (of t) (flat_map of ts))
 
   pub differ_is : list_any some_differ (all_counts setup lines) ≡ any_differs (expects setup) setup lines
-  differ_is = differ_all (places setup)
+  differ_is = differ_all (numbers setup)
 
   pub nothing_is : nothing_in (all_counts setup lines) ≡ compares_nothing (expects setup) setup lines
-  nothing_is = ap₂ (λ (a b : Bool). not a && not b) (differ_all (places setup)) (compared_all (places setup))
+  nothing_is = ap₂ (λ (a b : Bool). not a && not b) (differ_all (numbers setup)) (compared_all (numbers setup))
 
   pub status_is : status_in (all_counts setup lines) ≡ status (expects setup) setup lines
   status_is = ap₂ (λ (a b : Bool). if a then 8 else if b then 9 else 0) differ_is nothing_is
@@ -62,7 +62,7 @@ module _ (setup : RawSetup) (lines : List (List ℕ)) where
   lines_from a zero = refl
   lines_from a (suc n) = ap (λ w. count_line (expects setup) setup lines a ++ w) (lines_from (suc a) n)
 
-  pub lines_are : count_lines setup 1 (all_counts setup lines) ≡ flat_map (count_line (expects setup) setup lines) (places setup)
+  pub lines_are : count_lines setup 1 (all_counts setup lines) ≡ flat_map (count_line (expects setup) setup lines) (numbers setup)
   lines_are = lines_from 1 (length setup.testers)
 
 -- one tester's line more
@@ -83,18 +83,18 @@ count_more setup a (d ∷ cs) (suc i) c at =
 
 module _ (setup : RawSetup) (lines : List (List ℕ)) where
   -- one tester more
-  pub end_told : (own : Tester) (i : ℕ) (told now now' : List Told) → IsTester setup lines [] (i + 1) own
-      → now ≡ told ++ map told_pair (flat_map (open_for (expects setup) setup lines) (counted_from 1 i))
-      → EndsTold own (i + 1) now now'
-      → now' ≡ told ++ map told_pair (flat_map (open_for (expects setup) setup lines) (counted_from 1 (i + 1)))
-  end_told own i told now now' h first ends =
+  pub end_judged : (own : Tester) (i : ℕ) (judged now now' : List Judged) → IsTester setup lines [] (i + 1) own
+      → now ≡ judged ++ map judged_pair (flat_map (open_for (expects setup) setup lines) (counted_from 1 i))
+      → EndsJudged own (i + 1) now now'
+      → now' ≡ judged ++ map judged_pair (flat_map (open_for (expects setup) setup lines) (counted_from 1 (i + 1)))
+  end_judged own i judged now now' h first ends =
       let f = open_for (expects setup) setup lines in
       let more = ends (unit_events setup (i + 1) lines) (happenings (expects setup) setup (i + 1) lines) h.judges
       ∙ ap (λ w. now ++ w) (pairs_of (i + 1) _) in
-      more ∙ (ap (λ w. w ++ map told_pair (f (i + 1))) first
-      ∙ (append_assoc told (map told_pair (flat_map f (counted_from 1 i))) (map told_pair (f (i + 1)))
-      ∙ ap (λ w. told ++ w) (sym (map-append told_pair (flat_map f (counted_from 1 i)) (f (i + 1)))
-      ∙ ap (map told_pair) (sym (ap (flat_map f) (counted_next i)
+      more ∙ (ap (λ w. w ++ map judged_pair (f (i + 1))) first
+      ∙ (append_assoc judged (map judged_pair (flat_map f (counted_from 1 i))) (map judged_pair (f (i + 1)))
+      ∙ ap (λ w. judged ++ w) (sym (map-append judged_pair (flat_map f (counted_from 1 i)) (f (i + 1)))
+      ∙ ap (map judged_pair) (sym (ap (flat_map f) (counted_next i)
       ∙ (flat_append f (counted_from 1 i) ((i + 1) ∷ []) ∙ ap (λ w. flat_map f (counted_from 1 i) ++ w) (append-nil (f (i + 1)))))))))
 
   pub end_counted : (own : Tester) (i : ℕ) (counts : Counts) (now now' : List Counts) → IsTester setup lines [] (i + 1) own

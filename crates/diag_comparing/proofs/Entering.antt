@@ -49,7 +49,7 @@ module _ (setup : RawSetup) (lines : List (List ℕ)) (K : List Entry) (k : Entr
       ∙ ap (λ w. entered_by setup lines K k.who ++ w) (append-nil (entry_entered (last, k))))
 
   pub other_tester : (t : ℕ) (own : Tester) → k.who ≢ t → IsTester setup lines K t own → IsTester setup lines (K ++ k ∷ []) t own
-  other_tester t own apart h = record { judges = h.judges; side = h.side; entered = h.entered ∙ sym (entered_other t apart) }
+  other_tester t own apart h = record { judges = h.judges; link_setup = h.link_setup; entered = h.entered ∙ sym (entered_other t apart) }
 
 -- ---- a request
 
@@ -62,7 +62,7 @@ module _ (setup : RawSetup) (lines : List (List ℕ)) (K : List Entry) (who : �
       listens = subst (λ (l : Listener). Listens l (unit_events setup who lines) (happenings (expects setup) setup who lines)) (sym listener) h.judges.listens;
       counts = counts ∙ h.judges.counts;
     };
-    side = ap (λ (l : Listener). l.side) listener ∙ h.side;
+    link_setup = ap (λ (l : Listener). l.setup) listener ∙ h.link_setup;
     entered = entered ∙ (ap (λ w. w ++ entered_of ecu who request reply ∷ []) h.entered
         ∙ (ap (λ s. entered_by setup lines K who ++ entered_of s who request reply ∷ []) is ∙ sym (entered_own setup lines K (asks who request reply))));
   }

@@ -1,11 +1,11 @@
 -- The end of a line, as the bus tells it to a sink.
 use Rattle.std.proofs.Common.{◌≡◌, ℕ, ◌+◌, Option, Some, None, List, [], ◌∷◌, ◌++◌, length, drop, refl, ap, ap₂, sym, ◌∙◌}
 use Rattle.std.proofs.lemmas.List.{append-nil}
-use Rattle.diag_can.specs.declared.bus.BusLine.{BusLine}
+use Rattle.diag_can.specs.declared.bus_line.BusLine.{BusLine}
 use Rattle.diag_setup.specs.declared.raw.RawSetup.{RawSetup}
 use Rattle.diag_tp.specs.declared.sent.Sent.{Sent}
 use Rattle.diag_desk.specs.declared.entry.Entry.{Entry}
-use Rattle.diag_bus.specs.Batch.{resumed}
+use Rattle.diag_bus.specs.Clock.{resumed}
 use Rattle.diag_bus.specs.Sink.{LineEnds, journal_of}
 use Rattle.diag_bus.specs.Text.{ecu_after, start_after}
 use Rattle.diag_bus.specs.declared.clock.Clock.{Clock}
@@ -30,10 +30,10 @@ module _ (setup : RawSetup) (lines : List (List ℕ)) (line : List ℕ) (said : 
   }
 
   pub is_line : (number : ℕ) → number ≡ length lines + 1 → Ends setup lines line said span clock K
-      → IsLine setup lines line said span (record { line = number; moment = clock.time }) K
+      → IsLine setup lines line said span (record { number = number; moment = clock.time }) K
   is_line number is e = record {
     says = e.says;
     waits = e.waits;
-    place = ap₂ (λ (n m : ℕ). record { line = n; moment = m }) is e.time;
+    stands = ap₂ (λ (n m : ℕ). record { number = n; moment = m }) is e.time;
     entries = e.entries;
   }

@@ -4,8 +4,8 @@ use Rattle.std.proofs.lemmas.List.{append-nil, length-append, take_all, take-app
 use Rattle.std.proofs.lemmas.Bool.Decides.{nat_tests}
 use Rattle.std.specs.List.{filter, flat_map}
 use Rattle.std.specs.Prelude.{◌&&◌, ◌||◌, if◌then◌else◌, nat_le, nat_lt, not, Ok, Err, Result, IfSome}
-use Rattle.diag_can.specs.declared.bus.BusLine.{BusLine}
-use Rattle.diag_can.specs.declared.bus.BusLine.TheVariants as said
+use Rattle.diag_can.specs.declared.bus_line.BusLine.{BusLine}
+use Rattle.diag_can.specs.declared.bus_line.BusLine.TheVariants as said
 use Rattle.diag_can.specs.declared.fault.LineFault.{LineFault}
 use Rattle.diag_setup.specs.Rows.{in_order, insert_in_order}
 use Rattle.diag_setup.specs.Setup.{name_of}
@@ -15,11 +15,11 @@ use Rattle.diag_bus.specs.Text.{bus_moment, start_after, start_said}
 use Rattle.diag_bus.specs.declared.clock.Start.{Start}
 use Rattle.diag_exchange.specs.Agreeing.{agrees}
 use Rattle.diag_exchange.specs.declared.happening.Over.{Over}
-use Rattle.diag_judge.specs.declared.tester.Told.{Told}
-use Rattle.diag_told.specs.Told.{place_told, told_text}
+use Rattle.diag_judge.specs.declared.tester.Judged.{Judged}
+use Rattle.diag_told.specs.Told.{capture_line_told, told_text}
 use Rattle.diag_compare.specs.Compare.{compared_after, compared_by, is_told, lines_of}
 use Rattle.diag_compare.specs.Expects.{expects}
-use Rattle.diag_comparing.specs.Keeping.{HasStamps, line_at, lines_at, stamped_by, start_from, told_number, told_pair, written_at}
+use Rattle.diag_comparing.specs.Keeping.{HasStamps, judged_number, judged_pair, line_at, lines_at, stamped_by, start_from, written_at}
 use Rattle.diag_compare.specs.Told.{line_number, told_line}
 use Rattle.diag_comparing.specs.declared.stamps.FirstStamp.{FirstStamp}
 use Rattle.diag_comparing.specs.declared.stamps.Stamps.{Stamps}
@@ -27,24 +27,24 @@ use Rattle.diag_comparing.specs.declared.stamps.Stamps.{Stamps}
 -- ---- in order
 
 -- one exchange or none is
-pub few_in_order : (batch : List Told) → length batch < 2 → batch ≡ in_order told_number batch
+pub few_in_order : (batch : List Judged) → length batch < 2 → batch ≡ in_order judged_number batch
 few_in_order [] few = refl
-few_in_order (told ∷ []) few = refl
-few_in_order (told ∷ other ∷ others) few = absurd (omega (arith, few))
+few_in_order (judged ∷ []) few = refl
+few_in_order (judged ∷ other ∷ others) few = absurd (omega (arith, few))
 
-put_pairs : (x : ℕ × Over) (ys : List (ℕ × Over)) → insert_in_order told_number (told_pair x) (map told_pair ys) ≡ map told_pair (insert_in_order line_number x ys)
+put_pairs : (x : ℕ × Over) (ys : List (ℕ × Over)) → insert_in_order judged_number (judged_pair x) (map judged_pair ys) ≡ map judged_pair (insert_in_order line_number x ys)
 put_pairs x [] = refl
 put_pairs x (y ∷ ys) = pick (nat_le (line_number x) (line_number y)) (put_pairs x ys)
   where
-    pick : (b : Bool) → insert_in_order told_number (told_pair x) (map told_pair ys) ≡ map told_pair (insert_in_order line_number x ys)
-        → (if b then told_pair x ∷ told_pair y ∷ map told_pair ys else told_pair y ∷ insert_in_order told_number (told_pair x) (map told_pair ys))
-        ≡ map told_pair (if b then x ∷ y ∷ ys else y ∷ insert_in_order line_number x ys)
+    pick : (b : Bool) → insert_in_order judged_number (judged_pair x) (map judged_pair ys) ≡ map judged_pair (insert_in_order line_number x ys)
+        → (if b then judged_pair x ∷ judged_pair y ∷ map judged_pair ys else judged_pair y ∷ insert_in_order judged_number (judged_pair x) (map judged_pair ys))
+        ≡ map judged_pair (if b then x ∷ y ∷ ys else y ∷ insert_in_order line_number x ys)
     pick true rest = refl
-    pick false rest = ap (λ w. told_pair y ∷ w) rest
+    pick false rest = ap (λ w. judged_pair y ∷ w) rest
 
-pub order_pairs : (pairs : List (ℕ × Over)) → in_order told_number (map told_pair pairs) ≡ map told_pair (in_order line_number pairs)
+pub order_pairs : (pairs : List (ℕ × Over)) → in_order judged_number (map judged_pair pairs) ≡ map judged_pair (in_order line_number pairs)
 order_pairs [] = refl
-order_pairs (x ∷ xs) = ap (insert_in_order told_number (told_pair x)) (order_pairs xs) ∙ put_pairs x (in_order line_number xs)
+order_pairs (x ∷ xs) = ap (insert_in_order judged_number (judged_pair x)) (order_pairs xs) ∙ put_pairs x (in_order line_number xs)
 
 -- ---- where the bus's time begins
 
@@ -142,13 +142,13 @@ no_stamps setup stamps e =
 
 module _ (setup : RawSetup) (stamps : Stamps) (lines : List (List ℕ)) (differences : Bool) (h : HasStamps setup stamps lines) where
   -- an exchange's line is the one by where the bus's time begins
-  same_line : (pair : ℕ × Over) → line_at setup stamps (told_pair pair) ≡ told_line setup lines pair
+  same_line : (pair : ℕ × Over) → line_at setup stamps (judged_pair pair) ≡ told_line setup lines pair
   same_line pair =
-      ap (λ s. told_text (name_of setup pair.0) (bus_moment s (place_told pair.1).moment) (agrees pair.1) pair.1)
-      (sym (h.start (place_told pair.1).line))
+      ap (λ s. told_text (name_of setup pair.0) (bus_moment s (capture_line_told pair.1).moment) (agrees pair.1) pair.1)
+      (sym (h.start (capture_line_told pair.1).number))
 
   same_written : (pair : ℕ × Over) (d a : Bool) → d ≡ differences → a ≡ agrees pair.1 → (rest rest' : List ℕ) → rest ≡ rest'
-      → (if d && a then [] else line_at setup stamps (told_pair pair)) ++ rest
+      → (if d && a then [] else line_at setup stamps (judged_pair pair)) ++ rest
       ≡ (if not d || not a then told_line setup lines pair ++ rest' else rest')
   same_written pair true true d a rest rest' e = e
   same_written pair true false d a rest rest' e = ap₂ (λ (x y : List ℕ). x ++ y) (same_line pair) e
@@ -161,16 +161,16 @@ module _ (setup : RawSetup) (stamps : Stamps) (lines : List (List ℕ)) (differe
   told_if pair pairs true = refl
   told_if pair pairs false = refl
 
-  same_lines : (pairs : List (ℕ × Over)) → flat_map (written_at setup stamps differences) (map told_pair pairs)
+  same_lines : (pairs : List (ℕ × Over)) → flat_map (written_at setup stamps differences) (map judged_pair pairs)
       ≡ flat_map (told_line setup lines) (filter (is_told differences) pairs)
   same_lines [] = refl
   same_lines (pair ∷ pairs) =
-      same_written pair differences (agrees pair.1) refl refl (flat_map (written_at setup stamps differences) (map told_pair pairs))
+      same_written pair differences (agrees pair.1) refl refl (flat_map (written_at setup stamps differences) (map judged_pair pairs))
       (flat_map (told_line setup lines) (filter (is_told differences) pairs)) (same_lines pairs)
       ∙ sym (told_if pair (filter (is_told differences) pairs) (is_told differences pair))
 
   -- what is written of a batch is what the definition tells of its exchanges
-  pub lines_same : (pairs : List (ℕ × Over)) → lines_at setup stamps differences (map told_pair pairs)
+  pub lines_same : (pairs : List (ℕ × Over)) → lines_at setup stamps differences (map judged_pair pairs)
       ≡ lines_of (expects setup) setup differences lines pairs
   lines_same pairs = ap (flat_map (written_at setup stamps differences)) (order_pairs pairs) ∙ same_lines (in_order line_number pairs)
 

@@ -5,7 +5,7 @@ use Rattle.std.proofs.lemmas.Option.{slice_get_within}
 use Rattle.std.specs.List.{filter, flat_map}
 use Rattle.std.specs.Prelude.{◌==◌, if◌then◌else◌, slice_get, slice_set}
 use Rattle.diag_can.specs.Log.{waited}
-use Rattle.diag_can.specs.declared.bus.BusLine.{BusLine}
+use Rattle.diag_can.specs.declared.bus_line.BusLine.{BusLine}
 use Rattle.diag_can.specs.declared.frame.Event.{Event}
 use Rattle.diag_can.specs.declared.frame.Event.TheVariants.{Physical}
 use Rattle.diag_can.specs.declared.frame.Frame.{Frame}
@@ -23,17 +23,17 @@ use Rattle.diag_bus.specs.Text.{ecu_after}
 use Rattle.diag_exchange.specs.Exchanges.{over_after}
 use Rattle.diag_exchange.specs.declared.happening.Happening.{Happening}
 use Rattle.diag_exchange.specs.declared.happening.Over.{Over}
-use Rattle.diag_exchange.specs.declared.happening.Place.{Place}
+use Rattle.diag_exchange.specs.declared.happening.CaptureLine.{CaptureLine}
 use Rattle.diag_expect.specs.declared.entered.Entered.{Entered}
 use Rattle.diag_listen.specs.Listening.{all_happen}
-use Rattle.diag_judge.specs.Judging.{Judges, JudgesLine, frame_events, line_happens, request_happens, requests_happen, told_for}
+use Rattle.diag_judge.specs.Judging.{Judges, JudgesLine, frame_events, judged_for, line_happens, request_happens, requests_happen}
 use Rattle.diag_judge.specs.declared.tester.Tester.{Tester}
-use Rattle.diag_judge.specs.declared.tester.Told.{Told}
+use Rattle.diag_judge.specs.declared.tester.Judged.{Judged}
 use Rattle.diag_compare.specs.Compare.{beside, over_by}
 use Rattle.diag_compare.specs.Expects.{expects, step_expects}
-use Rattle.diag_compare.specs.Hearing.{asks, entries_by, entry_happens, frame_with, happenings, in_states, is_of, place_of, time_of_line, unit_after, unit_events, unit_frame, unit_side}
+use Rattle.diag_compare.specs.Hearing.{asks, capture_line_of, entries_by, entry_happens, frame_with, happenings, in_states, is_of, time_of_line, unit_after, unit_events, unit_frame, unit_side}
 use Rattle.diag_compare.specs.Hearing as hearing
-use Rattle.diag_comparing.specs.Keeping.{AreTesters, IsLine, IsTester, bytes_with, entered_by, entry_entered, step_entered, told_pair}
+use Rattle.diag_comparing.specs.Keeping.{AreTesters, IsLine, IsTester, bytes_with, entered_by, entry_entered, judged_pair, step_entered}
 use Rattle.diag_compare.proofs.Messages.{unit_push}
 use Rattle.diag_compare.proofs.Telling.{by_line, happen_push, with_line}
 
@@ -44,12 +44,12 @@ flat_append f [] ys = refl
 flat_append f (x ∷ xs) ys = ap (λ w. f x ++ w) (flat_append f xs ys) ∙ sym (append_assoc (f x) (flat_map f xs) (flat_map f ys))
 
 -- the requests that are complete are those that were entered
-step_asked : (setup : RawSetup) (at : Place) (s : State) (who : ℕ) (step : Step) (reply : Option (List ℕ))
+step_asked : (setup : RawSetup) (at : CaptureLine) (s : State) (who : ℕ) (step : Step) (reply : Option (List ℕ))
     → asks at step (step_expects setup s who step reply) ≡ requests_happen setup at (step_entered s who step reply)
 step_asked setup at s who (step.Request request) reply = refl
 step_asked setup at s who (step.Ticks n) reply = refl
 
-asked_entered : (setup : RawSetup) (at : Place) (t : ℕ) (es : List (State × Entry))
+asked_entered : (setup : RawSetup) (at : CaptureLine) (t : ℕ) (es : List (State × Entry))
     → flat_map (entry_happens (expects setup) setup t at) es ≡ requests_happen setup at (flat_map entry_entered es)
 asked_entered setup at t [] = refl
 asked_entered setup at t (e ∷ es) =
@@ -67,9 +67,9 @@ frame_is id (Some frame) = pick (frame.id == id)
     pick false = refl
 
 -- exchanges beside their tester
-pub pairs_of : (t : ℕ) (os : List Over) → map (told_for t) os ≡ map told_pair (map (beside t) os)
+pub pairs_of : (t : ℕ) (os : List Over) → map (judged_for t) os ≡ map judged_pair (map (beside t) os)
 pairs_of t [] = refl
-pairs_of t (o ∷ os) = ap (λ w. told_for t o ∷ w) (pairs_of t os)
+pairs_of t (o ∷ os) = ap (λ w. judged_for t o ∷ w) (pairs_of t os)
 
 -- one tester more
 counted_more : (a n : ℕ) → counted_from a (suc n) ≡ counted_from a n ++ (a + n) ∷ []
@@ -84,7 +84,7 @@ counted_next i =
 
 -- ---- a line to a tester
 
-module _ (setup : RawSetup) (lines : List (List ℕ)) (line : List ℕ) (K : List Entry) (said : BusLine) (span : ℕ) (at : Place)
+module _ (setup : RawSetup) (lines : List (List ℕ)) (line : List ℕ) (K : List Entry) (said : BusLine) (span : ℕ) (at : CaptureLine)
     (h : IsLine setup lines line said span at K) (t : ℕ) (bytes : Option (List ℕ))
     (frame : bytes ≡ bytes_with (ids_of setup t).response (frame_said said)) where
   abbrev before : List Event
@@ -103,24 +103,24 @@ module _ (setup : RawSetup) (lines : List (List ℕ)) (line : List ℕ) (K : Lis
   happen_is : line_happens setup (unit_side setup t) at before span (entered_by setup lines K t) bytes
       ≡ hearing.line_happens (expects setup) setup t lines line
   happen_is =
-      let entries = ap (λ es. flat_map (entry_happens (expects setup) setup t (place_of setup lines line)) (filter (is_of t) es)) (sym h.entries) in
-      let asked = sym (asked_entered setup (place_of setup lines line) t (filter (is_of t) (in_states (ecu_after setup lines) K))) ∙ entries in
-      ap (λ p. line_happens setup (unit_side setup t) p before span (entered_by setup lines K t) bytes) h.place
-      ∙ ap₂ (λ (x y : List Event). all_happen (unit_side setup t) (place_of setup lines line) before x
-      ++ requests_happen setup (place_of setup lines line) (entered_by setup lines K t)
-      ++ all_happen (unit_side setup t) (place_of setup lines line) (before ++ x) y) time_is frame_of
-      ∙ ap (λ w. all_happen (unit_side setup t) (place_of setup lines line) before (time_of_line setup lines (line_said setup line)) ++ w
-      ++ all_happen (unit_side setup t) (place_of setup lines line) (before ++ time_of_line setup lines (line_said setup line)) (unit_frame setup t (line_said setup line))) asked
+      let entries = ap (λ es. flat_map (entry_happens (expects setup) setup t (capture_line_of setup lines line)) (filter (is_of t) es)) (sym h.entries) in
+      let asked = sym (asked_entered setup (capture_line_of setup lines line) t (filter (is_of t) (in_states (ecu_after setup lines) K))) ∙ entries in
+      ap (λ p. line_happens setup (unit_side setup t) p before span (entered_by setup lines K t) bytes) h.stands
+      ∙ ap₂ (λ (x y : List Event). all_happen (unit_side setup t) (capture_line_of setup lines line) before x
+      ++ requests_happen setup (capture_line_of setup lines line) (entered_by setup lines K t)
+      ++ all_happen (unit_side setup t) (capture_line_of setup lines line) (before ++ x) y) time_is frame_of
+      ∙ ap (λ w. all_happen (unit_side setup t) (capture_line_of setup lines line) before (time_of_line setup lines (line_said setup line)) ++ w
+      ++ all_happen (unit_side setup t) (capture_line_of setup lines line) (before ++ time_of_line setup lines (line_said setup line)) (unit_frame setup t (line_said setup line))) asked
 
   abbrev so_far : List Happening
   so_far = happenings (expects setup) setup t lines
 
-  module _ (own new : Tester) (told told' : List Told) (own_is : IsTester setup lines K t own)
-      (took : JudgesLine setup at t own new told told' span bytes) (side : new.listener.side ≡ own.listener.side) (none : new.entered.items ≡ []) where
-    happened_is : line_happens setup own.listener.side at before span own.entered.items bytes ≡ hearing.line_happens (expects setup) setup t lines line
-    happened_is = ap₂ (λ (s : LinkSetup) (e : List Entered). line_happens setup s at before span e bytes) own_is.side own_is.entered ∙ happen_is
+  module _ (own new : Tester) (judged judged' : List Judged) (own_is : IsTester setup lines K t own)
+      (took : JudgesLine setup at t own new judged judged' span bytes) (link_setup : new.listener.setup ≡ own.listener.setup) (none : new.entered.items ≡ []) where
+    happened_is : line_happens setup own.listener.setup at before span own.entered.items bytes ≡ hearing.line_happens (expects setup) setup t lines line
+    happened_is = ap₂ (λ (s : LinkSetup) (e : List Entered). line_happens setup s at before span e bytes) own_is.link_setup own_is.entered ∙ happen_is
 
-    all_is : so_far ++ line_happens setup own.listener.side at before span own.entered.items bytes
+    all_is : so_far ++ line_happens setup own.listener.setup at before span own.entered.items bytes
         ≡ happenings (expects setup) setup t (lines ++ line ∷ [])
     all_is = ap (λ w. so_far ++ w) happened_is ∙ sym (happen_push (expects setup) setup t [] lines line)
 
@@ -128,20 +128,20 @@ module _ (setup : RawSetup) (lines : List (List ℕ)) (line : List ℕ) (K : Lis
     tester_is = record {
       judges = subst (λ (E : List Event). Judges new E (happenings (expects setup) setup t (lines ++ line ∷ []))) events_are
           (subst (λ w. Judges new ((before ++ waited span) ++ frame_events bytes) w) all_is (took before so_far own_is.judges).0);
-      side = side ∙ own_is.side;
+      link_setup = link_setup ∙ own_is.link_setup;
       entered = none;
     }
 
-    pub told_is : told' ≡ told ++ map told_pair (over_by (expects setup) setup lines line t)
-    told_is =
+    pub judged_is : judged' ≡ judged ++ map judged_pair (over_by (expects setup) setup lines line t)
+    judged_is =
         (took before so_far own_is.judges).1
-        ∙ (ap (λ w. told ++ map (told_for t) (over_after so_far w)) happened_is
-        ∙ ap (λ w. told ++ w) (pairs_of t (with_line (expects setup) setup t lines line) ∙ ap (map told_pair) (sym (by_line (expects setup) setup t lines line))))
+        ∙ (ap (λ w. judged ++ map (judged_for t) (over_after so_far w)) happened_is
+        ∙ ap (λ w. judged ++ w) (pairs_of t (with_line (expects setup) setup t lines line) ∙ ap (map judged_pair) (sym (by_line (expects setup) setup t lines line))))
 
 -- one that heard nothing
-pub new_tester : (setup : RawSetup) (t : ℕ) (own : Tester) → Judges own [] [] → own.entered.items ≡ [] → own.listener.side ≡ unit_side setup t
+pub new_tester : (setup : RawSetup) (t : ℕ) (own : Tester) → Judges own [] [] → own.entered.items ≡ [] → own.listener.setup ≡ unit_side setup t
     → IsTester setup [] [] t own
-new_tester setup t own judges entered side = record { judges = judges; side = side; entered = entered }
+new_tester setup t own judges entered link_setup = record { judges = judges; link_setup = link_setup; entered = entered }
 
 -- ---- all testers
 
@@ -179,13 +179,13 @@ module _ (setup : RawSetup) (lines : List (List ℕ)) (line : List ℕ) (K : Lis
       ap (flat_map f) (counted_next i) ∙ (flat_append f (counted_from 1 i) ((i + 1) ∷ [])
       ∙ ap (λ w. flat_map f (counted_from 1 i) ++ w) (append-nil (f (i + 1))))
 
-  -- one tester more was told of
-  pub told_more : (told now now' : List Told) (i : ℕ)
-      → now ≡ told ++ map told_pair (flat_map (over_by (expects setup) setup lines line) (counted_from 1 i))
-      → now' ≡ now ++ map told_pair (over_by (expects setup) setup lines line (i + 1))
-      → now' ≡ told ++ map told_pair (flat_map (over_by (expects setup) setup lines line) (counted_from 1 (i + 1)))
-  told_more told now now' i first more =
+  -- one tester more was judged
+  pub judged_more : (judged now now' : List Judged) (i : ℕ)
+      → now ≡ judged ++ map judged_pair (flat_map (over_by (expects setup) setup lines line) (counted_from 1 i))
+      → now' ≡ now ++ map judged_pair (over_by (expects setup) setup lines line (i + 1))
+      → now' ≡ judged ++ map judged_pair (flat_map (over_by (expects setup) setup lines line) (counted_from 1 (i + 1)))
+  judged_more judged now now' i first more =
       let f = over_by (expects setup) setup lines line in
-      more ∙ (ap (λ w. w ++ map told_pair (f (i + 1))) first
-      ∙ (append_assoc told (map told_pair (flat_map f (counted_from 1 i))) (map told_pair (f (i + 1)))
-      ∙ ap (λ w. told ++ w) (sym (map-append told_pair (flat_map f (counted_from 1 i)) (f (i + 1))) ∙ ap (map told_pair) (sym (over_more i)))))
+      more ∙ (ap (λ w. w ++ map judged_pair (f (i + 1))) first
+      ∙ (append_assoc judged (map judged_pair (flat_map f (counted_from 1 i))) (map judged_pair (f (i + 1)))
+      ∙ ap (λ w. judged ++ w) (sym (map-append judged_pair (flat_map f (counted_from 1 i)) (f (i + 1))) ∙ ap (map judged_pair) (sym (over_more i)))))

@@ -6,7 +6,8 @@ use Rattle.std.specs.Prelude.{◌==◌, if◌then◌else◌, option_map, IfSome}
 use Rattle.diag_can.specs.declared.frame.Frame.{Frame}
 use Rattle.diag_setup.specs.Setup.{ids_of}
 use Rattle.diag_setup.specs.declared.raw.RawSetup.{RawSetup}
-use Rattle.diag_bus.specs.Requests.{IsResponder, IsWithin}
+use Rattle.diag_bus.specs.RequestIds.{IsWithin}
+use Rattle.diag_bus.specs.ResponseIds.{IsResponder}
 use Rattle.diag_comparing.specs.Keeping.{IsUnitFrame, bytes_with, sent_to}
 
 module _ (setup : RawSetup) (frame : Frame) (responder : Option ℕ)

@@ -3,7 +3,7 @@ use Rattle.std.specs.Prelude.{◌≡◌, ◌≤◌, ℕ, suc, ◌+◌, ◌==◌,
 use Rattle.std.specs.Fmt.{decimal}
 use Rattle.std.specs.List.{filter, flat_map, list_any}
 use Rattle.diag_can.specs.Log.{waited}
-use Rattle.diag_can.specs.declared.bus.BusLine.{BusLine}
+use Rattle.diag_can.specs.declared.bus_line.BusLine.{BusLine}
 use Rattle.diag_can.specs.declared.frame.Frame.{Frame}
 use Rattle.diag_pdu.specs.declared.step.Step.{Step}
 use Rattle.diag_pdu.specs.declared.step.Step.TheVariants as step
@@ -13,23 +13,23 @@ use Rattle.diag_setup.specs.declared.raw.RawSetup.{RawSetup}
 use Rattle.diag_ecu.specs.State.{State}
 use Rattle.diag_desk.specs.declared.entry.Entry.{Entry}
 use Rattle.diag_bus.specs.Events.{clock_of, line_said, reference, time_said}
-use Rattle.diag_bus.specs.Requests.{IsWithin}
+use Rattle.diag_bus.specs.RequestIds.{IsWithin}
 use Rattle.diag_bus.specs.Text.{bus_moment, ecu_after, start_after}
-use Rattle.diag_bus.specs.Verdict.{places}
+use Rattle.diag_bus.specs.Verdict.{numbers}
 use Rattle.diag_bus.specs.declared.clock.Clock.{Clock}
 use Rattle.diag_bus.specs.declared.clock.Start.{Start}
 use Rattle.diag_exchange.specs.declared.happening.Over.{Over}
-use Rattle.diag_exchange.specs.declared.happening.Place.{Place}
+use Rattle.diag_exchange.specs.declared.happening.CaptureLine.{CaptureLine}
 use Rattle.diag_expect.specs.Expecting.{entered_of}
 use Rattle.diag_expect.specs.declared.entered.Entered.{Entered}
-use Rattle.diag_judge.specs.Judging.{Judges, counts_of, told_for}
+use Rattle.diag_judge.specs.Judging.{Judges, counts_of, judged_for}
 use Rattle.diag_judge.specs.declared.tester.Counts.{Counts}
 use Rattle.diag_judge.specs.declared.tester.Tester.{Tester}
-use Rattle.diag_judge.specs.declared.tester.Told.{Told}
-use Rattle.diag_told.specs.Told.{place_told, told_text}
+use Rattle.diag_judge.specs.declared.tester.Judged.{Judged}
+use Rattle.diag_told.specs.Told.{capture_line_told, told_text}
 use Rattle.diag_compare.specs.Compare.{compared_by, exchanges, open_for, over_by}
 use Rattle.diag_compare.specs.Expects.{expects}
-use Rattle.diag_compare.specs.Hearing.{entries_by, happenings, in_states, is_of, place_of, unit_events, unit_side}
+use Rattle.diag_compare.specs.Hearing.{capture_line_of, entries_by, happenings, in_states, is_of, unit_events, unit_side}
 use Rattle.diag_comparing.specs.declared.exchange_lines.ExchangeLines.{ExchangeLines}
 use Rattle.diag_comparing.specs.declared.exchange_lines.UnitFrame.{UnitFrame}
 use Rattle.diag_comparing.specs.declared.stamps.FirstStamp.{FirstStamp}
@@ -55,25 +55,25 @@ pub record HasStamps (setup : RawSetup) (stamps : Stamps) (lines : List (List �
 
 -- ---- the line of an exchange
 
-abbrev pub told_pair : ℕ × Over → Told
-told_pair pair = told_for pair.0 pair.1
+abbrev pub judged_pair : ℕ × Over → Judged
+judged_pair pair = judged_for pair.0 pair.1
 
-abbrev pub told_number : Told → ℕ
-told_number told = (place_told told.over).line
+abbrev pub judged_number : Judged → ℕ
+judged_number judged = (capture_line_told judged.over).number
 
 abbrev pub stamped_at : Stamps → Over → ℕ
-stamped_at stamps o = bus_moment (start_from stamps.first (place_told o).line) (place_told o).moment
+stamped_at stamps o = bus_moment (start_from stamps.first (capture_line_told o).number) (capture_line_told o).moment
 
-abbrev pub line_at : RawSetup → Stamps → Told → List ℕ
-line_at setup stamps told = told_text (name_of setup told.who) (stamped_at stamps told.over) told.agrees told.over
+abbrev pub line_at : RawSetup → Stamps → Judged → List ℕ
+line_at setup stamps judged = told_text (name_of setup judged.who) (stamped_at stamps judged.over) judged.agrees judged.over
 
 -- with `--differences` those that agree are left out
-abbrev pub written_at : RawSetup → Stamps → Bool → Told → List ℕ
-written_at setup stamps differences told = if differences && told.agrees then [] else line_at setup stamps told
+abbrev pub written_at : RawSetup → Stamps → Bool → Judged → List ℕ
+written_at setup stamps differences judged = if differences && judged.agrees then [] else line_at setup stamps judged
 
 -- of a batch, by their lines
-abbrev pub lines_at : RawSetup → Stamps → Bool → List Told → List ℕ
-lines_at setup stamps differences batch = flat_map (written_at setup stamps differences) (in_order told_number batch)
+abbrev pub lines_at : RawSetup → Stamps → Bool → List Judged → List ℕ
+lines_at setup stamps differences batch = flat_map (written_at setup stamps differences) (in_order judged_number batch)
 
 -- ---- a tester
 
@@ -92,7 +92,7 @@ entered_by setup lines K t = flat_map entry_entered (filter (is_of t) (in_states
 -- what is kept of a tester stands for these lines, and behind them these entries of the line that is under way
 pub record IsTester (setup : RawSetup) (lines : List (List ℕ)) (K : List Entry) (t : ℕ) (own : Tester) : Type 0 where
   pub judges : Judges own (unit_events setup t lines) (happenings (expects setup) setup t lines)
-  pub side : own.listener.side ≡ unit_side setup t
+  pub link_setup : own.listener.setup ≡ unit_side setup t
   pub entered : own.entered.items ≡ entered_by setup lines K t
 
 -- of the testers, one behind the other
@@ -136,21 +136,21 @@ pub record Ends (setup : RawSetup) (lines : List (List ℕ)) (line : List ℕ) (
   pub start : clock.start ≡ start_after setup 0 (lines ++ line ∷ [])
   pub entries : entries_by setup lines line ≡ in_states (ecu_after setup lines) K
 
--- the same of a line of this place
-pub record IsLine (setup : RawSetup) (lines : List (List ℕ)) (line : List ℕ) (said : BusLine) (span : ℕ) (at : Place)
+-- the same of this line of the capture
+pub record IsLine (setup : RawSetup) (lines : List (List ℕ)) (line : List ℕ) (said : BusLine) (span : ℕ) (at : CaptureLine)
     (K : List Entry) : Type 0 where
   pub says : line_said setup line ≡ Ok said
   pub waits : waited span ≡ time_said (reference setup lines) said
-  pub place : at ≡ place_of setup lines line
+  pub stands : at ≡ capture_line_of setup lines line
   pub entries : entries_by setup lines line ≡ in_states (ecu_after setup lines) K
 
--- each tester took the end of a line, and what was over with it was told
-abbrev pub TakesEach : RawSetup → Place → BusLine → ℕ → List Tester → List Tester → List Told → List Told → Type 0
-TakesEach setup at said span old new told told' = (lines : List (List ℕ)) (line : List ℕ) (K : List Entry)
+-- each tester took the end of a line, and what was over with it was judged
+abbrev pub TakesEach : RawSetup → CaptureLine → BusLine → ℕ → List Tester → List Tester → List Judged → List Judged → Type 0
+TakesEach setup at said span old new judged judged' = (lines : List (List ℕ)) (line : List ℕ) (K : List Entry)
     → IsLine setup lines line said span at K
     → AreTesters setup lines K old
     → AreTesters setup (lines ++ line ∷ []) [] new
-    × (told' ≡ told ++ map told_pair (flat_map (over_by (expects setup) setup lines line) (places setup)))
+    × (judged' ≡ judged ++ map judged_pair (flat_map (over_by (expects setup) setup lines line) (numbers setup)))
 
 -- the end of a line was taken, and this was written
 abbrev pub TakesEnd : RawSetup → ExchangeLines → ExchangeLines → BusLine → ℕ → Clock → List ℕ → Type 0
@@ -167,13 +167,13 @@ abbrev pub tester_counts : RawSetup → List (List ℕ) → ℕ → Counts
 tester_counts setup lines t = counts_of (exchanges (expects setup) setup lines t)
 
 abbrev pub all_counts : RawSetup → List (List ℕ) → List Counts
-all_counts setup lines = map (tester_counts setup lines) (places setup)
+all_counts setup lines = map (tester_counts setup lines) (numbers setup)
 
--- the exchanges that weren't over were told, of each tester
-abbrev pub EndsEach : RawSetup → List Tester → List Told → List Told → Type 0
-EndsEach setup testers told told' = (lines : List (List ℕ))
+-- the exchanges that weren't over were judged, of each tester
+abbrev pub EndsEach : RawSetup → List Tester → List Judged → List Judged → Type 0
+EndsEach setup testers judged judged' = (lines : List (List ℕ))
     → AreTesters setup lines [] testers
-    → told' ≡ told ++ map told_pair (flat_map (open_for (expects setup) setup lines) (places setup))
+    → judged' ≡ judged ++ map judged_pair (flat_map (open_for (expects setup) setup lines) (numbers setup))
 
 -- all exchanges were counted, of each tester
 abbrev pub CountsEach : RawSetup → List Tester → List Counts → Type 0

@@ -44,7 +44,7 @@ ticks_taken own setup lines K who count h = record {
   many = h.many;
   each = λ i tester at. record {
     judges = (h.each i tester at).judges;
-    side = (h.each i tester at).side;
+    link_setup = (h.each i tester at).link_setup;
     entered = (h.each i tester at).entered ∙ sym (none_entered who count (i + 1) (ecu_after setup lines) K);
   };
 }

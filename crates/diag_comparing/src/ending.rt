@@ -10,7 +10,7 @@ ghost use Rattle.diag_comparing.specs.Keeping.{CountsEach, EndsEach, HasTaken, c
 
 use crate::exchange_lines::ExchangeLines;
 use crate::telling::write_batch;
-use diag_judge::{Counts, Tester, Told};
+use diag_judge::{Counts, Judged, Tester};
 use diag_setup::Setup;
 use itoa::Buffer;
 use std::alloc::{AllocError, Global};
@@ -21,16 +21,16 @@ const DIFFERS: u8 = 8;
 /// The status where nothing was compared.
 const NOTHING_COMPARED: u8 = 9;
 
-/// What is counted of each tester's exchanges, in order; those that aren't over are put behind `told`, one tester behind the
+/// What is counted of each tester's exchanges, in order; those that aren't over are put behind `judged`, one tester behind the
 /// other.
 fn end_each(
     testers: &[Tester],
     alloc: Global,
     setup: &Setup,
-    told: &mut Vec<Told>,
+    judged: &mut Vec<Judged>,
 ) -> Result<Vec<Counts>, AllocError>
     requires { length testers.now ≡ length setup.now.testers }
-    ensures told { OnOk result (EndsEach setup.now testers.now told.old.items told.new.items) }
+    ensures judged { OnOk result (EndsEach setup.now testers.now judged.old.items judged.new.items) }
     ensures counts { IfOk result (λ counts. CountsEach setup.now testers.now counts.items) }
     ensures many { IfOk result (λ counts. length counts.items ≡ length testers.now) }
 {
@@ -39,7 +39,7 @@ fn end_each(
         let Some(who) = setup.who(index) else {
             unreachable!()
         };
-        let own = testers[index].end(alloc, who, told)?;
+        let own = testers[index].end(alloc, who, judged)?;
         counts.push(own)?;
     }
     Ok(counts)
@@ -142,10 +142,10 @@ impl ExchangeLines {
             → number ≡ status (expects setup.now) setup.now lines) }
         ensures err { OnErr result (text.new.items ≡ text.old.items) }
     {
-        let mut told = Vec::new(alloc);
-        let counts = end_each(self.testers.as_slice(), alloc, setup, &mut told)?;
+        let mut judged = Vec::new(alloc);
+        let counts = end_each(self.testers.as_slice(), alloc, setup, &mut judged)?;
         let mut end = Vec::new(alloc);
-        write_batch(setup, &self.stamps, self.differences, &mut told, &mut end)?;
+        write_batch(setup, &self.stamps, self.differences, &mut judged, &mut end)?;
         add_counts(&mut end, setup, counts.as_slice())?;
         add_last(&mut end, is_nothing(counts.as_slice()))?;
         text.extend_from_slice(end.as_slice())?;

@@ -1,14 +1,14 @@
 //! What is kept of a recording, and the lines of exchanges that are over.
 
 ghost use Rattle.std.specs.Prelude.{◌≡◌, ◌≤◌, ◌+◌, ◌∷◌, [], ◌++◌, ℕ, List, length, option_copied, option_map, IfOk, OnOk, OnErr, Ok};
-ghost use Rattle.diag_can.specs.declared.bus.BusLine.{BusLine as ABusLine};
+ghost use Rattle.diag_can.specs.declared.bus_line.BusLine.{BusLine as ABusLine};
 ghost use Rattle.diag_desk.specs.Entries.{asks};
 ghost use Rattle.diag_desk.specs.declared.entry.Entry.{Entry};
 ghost use Rattle.diag_ecu.specs.State.{State};
 ghost use Rattle.diag_setup.specs.declared.raw.RawSetup.{RawSetup};
 ghost use Rattle.diag_desk.specs.Legal.{after};
 ghost use Rattle.diag_bus.specs.Events.{frame_said};
-ghost use Rattle.diag_bus.specs.Requests.{AreResponsesOf};
+ghost use Rattle.diag_bus.specs.ResponseIds.{AreResponsesOf};
 ghost use Rattle.diag_bus.specs.Text.{ecu_after};
 ghost use Rattle.diag_port.specs.Port.{Grew};
 ghost use Rattle.diag_compare.specs.Hearing.{unit_side};
@@ -19,9 +19,9 @@ use crate::telling::write_batch;
 use diag_bus::{Clock, ResponseIds};
 use diag_can::{BusLine, FrameBytes, FrameText, TickCount};
 use diag_ecu::Ecu;
-use diag_exchange::Place;
+use diag_exchange::CaptureLine;
 use diag_expect::Entered;
-use diag_judge::{Tester, Told};
+use diag_judge::{Judged, Tester};
 use diag_pdu::{LinkSetup, Message, Request};
 use diag_setup::{Setup, TesterId};
 use std::alloc::{AllocError, Global};
@@ -42,7 +42,7 @@ pub struct ExchangeLines {
     /// The testers, in the setup's order.
     pub testers: Vec<Tester>,
     /// Room for what is over with a line.
-    pub batch: Vec<Told>,
+    pub batch: Vec<Judged>,
     /// Room for its lines.
     pub text: Vec<u8>,
 }
@@ -121,30 +121,30 @@ fn next(number: u64) -> Result<u64, AllocError>
     number.checked_add(1).ok_or(AllocError)
 }
 
-/// Gives the end of a line to each tester; what is over with it is put behind `told`, one tester behind the other.
+/// Gives the end of a line to each tester; what is over with it is put behind `judged`, one tester behind the other.
 fn take_each(
     testers: &mut Vec<Tester>,
     responses: &ResponseIds,
     setup: &Setup,
-    at: Place,
+    at: CaptureLine,
     said: &BusLine,
     span: u64,
-    told: &mut Vec<Told>,
+    judged: &mut Vec<Judged>,
 ) -> Result<(), AllocError>
     requires many { length testers.old.items ≡ length setup.now.testers }
     requires responses { AreResponsesOf setup.now responses.now }
     ensures each { OnOk result (TakesEach setup.now at said.now span
-        testers.old.items testers.new.items told.old.items told.new.items) }
+        testers.old.items testers.new.items judged.old.items judged.new.items) }
     ensures many { length testers.new.items ≡ length testers.old.items }
 {
-    let alloc = *told.allocator();
+    let alloc = *judged.allocator();
     let sent = unit_frame(responses, setup, said);
     for index in 0..testers.len() {
         let Some(who) = setup.who(index) else {
             unreachable!()
         };
         let frame = bytes_to(sent.as_ref(), who);
-        testers[index].take_line(alloc, setup, who, at, span, frame, told)?;
+        testers[index].take_line(alloc, setup, who, at, span, frame, judged)?;
     }
     Ok(())
 }
@@ -242,8 +242,8 @@ impl ExchangeLines {
         ensures differences { self.new.differences ≡ self.old.differences }
     {
         let line = next(self.lines)?;
-        let at = Place {
-            line,
+        let at = CaptureLine {
+            number: line,
             moment: clock.time,
         };
         self.batch.clear();

@@ -10,7 +10,7 @@ use std::alloc::{AllocError, Global};
 
 impl Sink for ExchangeLines {
     ghost use Rattle.std.specs.Prelude.{◌≡◌, Bool, false, length};
-    ghost use Rattle.diag_bus.specs.Requests.{AreResponsesOf};
+    ghost use Rattle.diag_bus.specs.ResponseIds.{AreResponsesOf};
     ghost use Rattle.diag_compare.specs.Compare.{compared};
     ghost use Rattle.diag_compare.specs.Expects.{expects};
     ghost use Rattle.diag_comparing.specs.Keeping.{HasTaken};

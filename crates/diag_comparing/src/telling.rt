@@ -4,19 +4,19 @@ ghost use Rattle.std.specs.Prelude.{◌≡◌, ◌++◌, OnOk};
 ghost use Rattle.std.specs.List.{flat_map};
 ghost use Rattle.diag_setup.specs.Rows.{in_order};
 ghost use Rattle.diag_setup.specs.Setup.{name_of};
-ghost use Rattle.diag_comparing.specs.Keeping.{line_at, lines_at, told_number, written_at};
+ghost use Rattle.diag_comparing.specs.Keeping.{judged_number, line_at, lines_at, written_at};
 
 use crate::stamps::Stamps;
-use diag_judge::Told;
+use diag_judge::Judged;
 use diag_setup::{Setup, TesterId};
-use diag_told::{place, tell};
+use diag_told::{capture_line, tell};
 use std::alloc::AllocError;
 
 /// A tester's name; none where the setup has no such tester.
 fn name_of(setup: &Setup, who: TesterId) -> &[u8]
     ensures { result.now ≡ name_of setup.now who }
 {
-    if usize::from(who.place()) <= setup.testers() {
+    if usize::from(who.number()) <= setup.testers() {
         setup.name(who)
     } else {
         &[]
@@ -24,13 +24,13 @@ fn name_of(setup: &Setup, who: TesterId) -> &[u8]
 }
 
 /// Puts exchanges in the order of their lines, those of one line as they stand.
-fn sort(batch: &mut Vec<Told>) -> Result<(), AllocError>
-    ensures { OnOk result (batch.new.items ≡ in_order told_number batch.old.items) }
+fn sort(batch: &mut Vec<Judged>) -> Result<(), AllocError>
+    ensures { OnOk result (batch.new.items ≡ in_order judged_number batch.old.items) }
 {
     if batch.len() < 2 {
         return Ok(());
     }
-    batch.sort_by_key(|told| place(&told.over).line)?;
+    batch.sort_by_key(|judged| capture_line(&judged.over).number)?;
     Ok(())
 }
 
@@ -39,19 +39,19 @@ fn sort(batch: &mut Vec<Told>) -> Result<(), AllocError>
 fn add_line(
     setup: &Setup,
     stamps: &Stamps,
-    told: &Told,
+    judged: &Judged,
     text: &mut Vec<u8>,
 ) -> Result<(), AllocError>
-    ensures { OnOk result (text.new.items ≡ text.old.items ++ line_at setup.now stamps.now told.now) }
+    ensures { OnOk result (text.new.items ≡ text.old.items ++ line_at setup.now stamps.now judged.now) }
 {
-    let at = place(&told.over);
-    let moment = stamps.moment(at.line, at.moment)?;
+    let at = capture_line(&judged.over);
+    let moment = stamps.moment(at.number, at.moment)?;
     tell(
         text,
-        name_of(setup, told.who),
+        name_of(setup, judged.who),
         moment,
-        &told.over,
-        told.agrees,
+        &judged.over,
+        judged.agrees,
     )
 }
 
@@ -60,16 +60,16 @@ fn write_one(
     setup: &Setup,
     stamps: &Stamps,
     differences: bool,
-    told: &Told,
+    judged: &Judged,
     text: &mut Vec<u8>,
 ) -> Result<(), AllocError>
     ensures { OnOk result (text.new.items
-        ≡ text.old.items ++ written_at setup.now stamps.now differences told.now) }
+        ≡ text.old.items ++ written_at setup.now stamps.now differences judged.now) }
 {
-    if differences && told.agrees {
+    if differences && judged.agrees {
         return Ok(());
     }
-    add_line(setup, stamps, told, text)
+    add_line(setup, stamps, judged, text)
 }
 
 /// Adds the lines of exchanges, in the order of their lines; with `differences` those that agree are left out.
@@ -80,15 +80,15 @@ pub(crate) fn write_batch(
     setup: &Setup,
     stamps: &Stamps,
     differences: bool,
-    batch: &mut Vec<Told>,
+    batch: &mut Vec<Judged>,
     text: &mut Vec<u8>,
 ) -> Result<(), AllocError>
     ensures { OnOk result (text.new.items
         ≡ text.old.items ++ lines_at setup.now stamps.now differences batch.old.items) }
 {
     sort(batch)?;
-    for told in batch.as_slice() {
-        write_one(setup, stamps, differences, told, text)?;
+    for judged in batch.as_slice() {
+        write_one(setup, stamps, differences, judged, text)?;
     }
     Ok(())
 }

@@ -6,7 +6,7 @@ use Rattle.toml.specs.Parse.{parse_document}
 use Rattle.hex.specs.Hex.{decode_of}
 use Rattle.diag_setup.specs.declared.raw.RawTester.{RawTester}
 use Rattle.diag_setup.specs.declared.raw.RawDid.{RawDid}
-use Rattle.diag_setup.specs.declared.raw.RawCode.{RawCode}
+use Rattle.diag_setup.specs.declared.raw.RawDtc.{RawDtc}
 use Rattle.diag_setup.specs.declared.raw.RawRoutine.{RawRoutine}
 use Rattle.diag_setup.specs.declared.raw.RawKeyRow.{RawKeyRow}
 use Rattle.diag_setup.specs.declared.raw.RawLevel.{RawLevel}
@@ -141,20 +141,20 @@ did_at ms = do
     varies = varies;
   })
 
-unfoldable pub code_at : Members → Result RawCode Fault
-code_at ms = do
+unfoldable pub dtc_at : Members → Result RawDtc Fault
+dtc_at ms = do
   code ← required number ms (codes "code") (codes "code.code")
   status ← required number ms (codes "status") (codes "code.status")
   Ok (record { code = code; status = status })
 
--- the code that a routine gives its status when it is done; the status is looked at only where the code is given
-abbrev pub done_with : Members → Option ℕ → Result (Option RawCode) Fault
+-- the DTC that a routine sets when it is done; its status is looked at only where the DTC is given
+abbrev pub done_with : Members → Option ℕ → Result (Option RawDtc) Fault
 done_with ms None = Ok None
 done_with ms (Some code) =
     required number ms (codes "status") (codes "routine.status")
     >>= λ status. Ok (Some (record { code = code; status = status }))
 
-unfoldable pub done_at : Members → Result (Option RawCode) Fault
+unfoldable pub done_at : Members → Result (Option RawDtc) Fault
 done_at ms = do
   code ← optional number ms (codes "code") (codes "routine.code")
   done_with ms code
@@ -258,14 +258,14 @@ unfoldable pub tables_at : Members → Result SetupTables Fault
 tables_at ms = do
   testers ← at_top (list (row tester_at)) ms (codes "tester") []
   dids ← at_top (list (row did_at)) ms (codes "did") []
-  trouble_codes ← at_top (list (row code_at)) ms (codes "code") []
+  dtcs ← at_top (list (row dtc_at)) ms (codes "code") []
   routines ← at_top (list (row routine_at)) ms (codes "routine") []
   levels ← at_top (list (row level_at)) ms (codes "level") []
   answers ← at_top (list (row answer_at)) ms (codes "answer") []
   Ok (record {
     testers = testers;
     dids = dids;
-    dtcs = trouble_codes;
+    dtcs = dtcs;
     routines = routines;
     levels = levels;
     answers = answers;

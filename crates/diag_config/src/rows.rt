@@ -2,14 +2,14 @@
 
 ghost use Rattle.toml.specs.View.{table_view};
 ghost use Rattle.diag_config.specs.Key.{KeyGives};
-ghost use Rattle.diag_config.specs.Setup.{tester_at, did_at, code_at, done_at, routine_at, row_at, level_at, answer_at, timing_at, transport_at, server_at, ignore_at, tables_at, setup_at};
+ghost use Rattle.diag_config.specs.Setup.{tester_at, did_at, dtc_at, done_at, routine_at, row_at, level_at, answer_at, timing_at, transport_at, server_at, ignore_at, tables_at, setup_at};
 
 use crate::answer::{Patterns, Reply};
 use crate::fault::KeyFault;
 use crate::table::{FromTable, at_top, optional, required, with_default};
 use crate::value::{Hex, Text};
 use diag_setup::{
-    Items, RawAnswer, RawCode, RawDid, RawKeyRow, RawLevel, RawPattern, RawRoutine, RawSetup,
+    Items, RawAnswer, RawDid, RawDtc, RawKeyRow, RawLevel, RawPattern, RawRoutine, RawSetup,
     RawTester,
 };
 use std::alloc::Global;
@@ -49,7 +49,7 @@ struct ServerValues {
 struct SetupTables {
     testers: Items<RawTester>,
     dids: Items<RawDid>,
-    dtcs: Items<RawCode>,
+    dtcs: Items<RawDtc>,
     routines: Items<RawRoutine>,
     levels: Items<RawLevel>,
     answers: Items<RawAnswer>,
@@ -97,20 +97,20 @@ impl FromTable for RawDid {
     }
 }
 
-impl FromTable for RawCode {
-    ghost at = { code_at };
+impl FromTable for RawDtc {
+    ghost at = { dtc_at };
 
-    #[tactic(auto, unfolding(crate::specs::Setup::code_at))]
-    fn from_table(alloc: Global, table: &Table) -> Result<RawCode, KeyFault> {
+    #[tactic(auto, unfolding(crate::specs::Setup::dtc_at))]
+    fn from_table(alloc: Global, table: &Table) -> Result<RawDtc, KeyFault> {
         let code: u32 = required(alloc, table, "code", "code.code")?;
         let status: u32 = required(alloc, table, "status", "code.status")?;
-        Ok(RawCode { code, status })
+        Ok(RawDtc { code, status })
     }
 }
 
-/// The code that a routine sets when it is done. Its status is looked at only where the code is given.
+/// The DTC that a routine sets when it is done. Its status is looked at only where the DTC is given.
 #[tactic(auto, unfolding(crate::specs::Setup::done_at))]
-fn done(alloc: Global, table: &Table) -> Result<Option<RawCode>, KeyFault>
+fn done(alloc: Global, table: &Table) -> Result<Option<RawDtc>, KeyFault>
     ensures { KeyGives (λ x. x) result (done_at (table_view table.now)) }
 {
     let code: Option<u32> = optional(alloc, table, "code", "routine.code")?;
@@ -118,7 +118,7 @@ fn done(alloc: Global, table: &Table) -> Result<Option<RawCode>, KeyFault>
         None => Ok(None),
         Some(code) => {
             let status: u32 = required(alloc, table, "status", "routine.status")?;
-            Ok(Some(RawCode { code, status }))
+            Ok(Some(RawDtc { code, status }))
         }
     }
 }
@@ -277,7 +277,7 @@ fn tables(alloc: Global, table: &Table) -> Result<SetupTables, KeyFault>
 {
     let testers = at_top(alloc, table, "tester", Items::<RawTester>::new(alloc))?;
     let dids = at_top(alloc, table, "did", Items::<RawDid>::new(alloc))?;
-    let dtcs = at_top(alloc, table, "code", Items::<RawCode>::new(alloc))?;
+    let dtcs = at_top(alloc, table, "code", Items::<RawDtc>::new(alloc))?;
     let routines = at_top(alloc, table, "routine", Items::<RawRoutine>::new(alloc))?;
     let levels = at_top(alloc, table, "level", Items::<RawLevel>::new(alloc))?;
     let answers = at_top(alloc, table, "answer", Items::<RawAnswer>::new(alloc))?;

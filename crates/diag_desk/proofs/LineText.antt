@@ -181,7 +181,7 @@ step_same (Ticks m) (Ticks n) p q h k e =
 -- two entries of one line are one
 pub entry_same : (e f : Entry) → IsEntry e → IsEntry f → entry_line e ≡ entry_line f → e ≡ f
 entry_same e f h k is =
-    let place : 48 + e.who ≡ 48 + f.who = ap (λ l. get_or l 0 0) is in
+    let digit : 48 + e.who ≡ 48 + f.who = ap (λ l. get_or l 0 0) is in
     let who : e.who ≡ f.who = omega arith in
     let both = step_same e.step f.step e.reply f.reply h.2 k.2 (ap (drop 1) is) in
     λ i. record { who = who i; step = both.0 i; reply = both.1 i }
@@ -212,10 +212,10 @@ pub line_above : (e : Entry) → IsEntry e → Above 10 (entry_line e)
 line_above e h = (omega arith, step_above e.step e.reply h.2)
 
 -- an entry's line is put together from its parts
-pub line_joined : (line : List ℕ) (who place letter : ℕ) (body : List ℕ) (k : Kind) (s : Step) (r : Option (List ℕ))
-    → line ≡ fronted place letter body → 48 + who ≡ place → kind_code k ≡ letter → HasBody k s r body
+pub line_joined : (line : List ℕ) (who digit letter : ℕ) (body : List ℕ) (k : Kind) (s : Step) (r : Option (List ℕ))
+    → line ≡ fronted digit letter body → 48 + who ≡ digit → kind_code k ≡ letter → HasBody k s r body
     → (48 + who) ∷ step_text s r ≡ line
-line_joined line who place letter body k s r e p q has =
+line_joined line who digit letter body k s r e p q has =
     ap (λ l. (48 + who) ∷ l) has ∙ (λ i. fronted (p i) (q i) body) ∙ sym e
 
 -- hex text is twice as long as its bytes

@@ -5,7 +5,7 @@ use Rattle.std.proofs.lemmas.List.{append_cancel_right}
 use Rattle.std.proofs.lemmas.Option.{same_Some}
 use Rattle.std.proofs.lemmas.List.Elements.{All-cons, All-head, All-nil, All-tail}
 use Rattle.diag_setup.specs.declared.raw.RawSetup.{RawSetup}
-use Rattle.diag_can.specs.Bus.{HasNoFeed}
+use Rattle.diag_can.specs.BusLine.{HasNoFeed}
 use Rattle.diag_can.specs.Log.{is_feed}
 use Rattle.diag_desk.specs.declared.entry.Entry.{Entry}
 use Rattle.diag_desk.specs.declared.version.JournalVersion.{JournalVersion}

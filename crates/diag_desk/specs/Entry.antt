@@ -70,7 +70,7 @@ abbrev pub IsStep : Step → Option (List ℕ) → Type 0
 IsStep (Request request) reply = IsMessage request.message × IsReply reply
 IsStep (Ticks count) reply = (1 ≤ count) × (count ≤ 60000) × (reply ≡ None)
 
--- an entry of one of the eight places
+-- an entry of one of the eight testers
 abbrev pub IsEntry : Entry → Type 0
 IsEntry e = (1 ≤ e.who) × (e.who ≤ 8) × IsStep e.step e.reply
 

@@ -53,12 +53,12 @@ kind_code kind.Physical = 80
 kind_code kind.Functional = 70
 kind_code kind.Ticks = 84
 
--- a line of a place, a kind and what follows them
+-- a line of a tester's digit, a kind and what follows them
 abbrev pub fronted : ℕ → ℕ → List ℕ → List ℕ
-fronted place kind body = place ∷ 32 ∷ kind ∷ 32 ∷ body
+fronted digit kind body = digit ∷ 32 ∷ kind ∷ 32 ∷ body
 
 abbrev pub IsNoFront : List ℕ → Type 0
-IsNoFront text = (place kind : ℕ) (body : List ℕ) → fronted place kind body ≡ text → ⊥
+IsNoFront text = (digit kind : ℕ) (body : List ℕ) → fronted digit kind body ≡ text → ⊥
 
 -- what follows the kind, and the space after it
 abbrev pub HasBody : Kind → Step → Option (List ℕ) → List ℕ → Type 0

@@ -15,7 +15,7 @@ reply_text (Some reply) = encode_upper reply
 abbrev pub kind_text : Bool → List ℕ
 kind_text functional = if functional then codes " F " else codes " P "
 
--- what follows a tester's place
+-- what follows a tester's number
 abbrev pub step_text : Step → Option (List ℕ) → List ℕ
 step_text (Request request) reply =
     kind_text request.functional

@@ -15,7 +15,7 @@ pub const MOST_ENTRIES: usize = 1_000_000;
 /// An entry of the journal: a tester's step, and the reply if one was sent. Ticks have none.
 #[derive(Drop)]
 pub struct Entry {
-    /// The tester, by its place.
+    /// The tester, by its number.
     pub who: TesterId,
     /// What the tester asked, or its ticks.
     pub step: Step,
@@ -73,7 +73,7 @@ impl<'a> StepRef<'a> {
 /// An entry that the journal keeps; a reply has 1 to 65535 bytes.
 #[derive(Clone, Copy, Debug)]
 pub struct EntryRef<'a> {
-    /// The tester, by its place.
+    /// The tester, by its number.
     pub who: TesterId,
     /// What the tester asked, or its ticks.
     pub step: StepRef<'a>,

@@ -125,8 +125,8 @@ pub(crate) fn head_of(
         ≡ entry who (step_seen step.now) (option_copied reply.entry) }
     ensures entry { IsEntry (entry who (step_seen step.now) (option_copied reply.entry)) }
 {
-    // (for its contract: a place is at most 8)
-    let _place = who.place();
+    // (for its contract: a tester's number is at most 8)
+    let _number = who.number();
     match *step {
         StepRef::Ticks(count) => Head::Ticks { who, count },
         StepRef::Request {

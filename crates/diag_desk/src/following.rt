@@ -15,7 +15,7 @@ ghost use Rattle.diag_desk.specs.Line.{HasHex, IsHex, IsHexReply, decoded, front
 ghost use Rattle.diag_desk.specs.declared.line.Kind.TheVariants as kind;
 ghost use Rattle.diag_desk.specs.PartRead.{HasNoNext};
 ghost use Rattle.diag_can.specs.Pieces.{TakesLines};
-ghost use Rattle.diag_can.specs.Bus.{HasNoFeed};
+ghost use Rattle.diag_can.specs.BusLine.{HasNoFeed};
 
 use crate::clocks::Clocks;
 use crate::entry::MOST_ENTRIES;
@@ -131,7 +131,7 @@ impl Play {
         ensures memory { OnErr result ((line.now.who ≤ length setup.now.testers)
             × (is_ticks (line_entry line.now).step ≡ false)) }
     {
-        if setup.testers() < usize::from(line.who.place()) {
+        if setup.testers() < usize::from(line.who.number()) {
             return Ok(false);
         }
         match line.step {
@@ -380,7 +380,7 @@ impl Follower {
         let Some(front) = line_front(text) else {
             return None;
         };
-        if setup.testers() < usize::from(front.who.place()) {
+        if setup.testers() < usize::from(front.who.number()) {
             return None;
         }
         match is_functional(front.kind) {
@@ -408,8 +408,8 @@ impl Follower {
             → Follows setup.now self.new past) }
         ensures version { self.new.version ≡ self.old.version }
     {
-        // (for its contract: a place is at most 8)
-        let _place = who.place();
+        // (for its contract: a tester's number is at most 8)
+        let _number = who.number();
         let Some(rest) = self.play.answers_front(who, functional, text) else {
             return None;
         };
@@ -428,8 +428,8 @@ impl Follower {
         ensures none { IfNone result (self.new ≡ self.old) }
         ensures version { self.new.version ≡ self.old.version }
     {
-        // (for its contract: a place is at most 8)
-        let _place = who.place();
+        // (for its contract: a tester's number is at most 8)
+        let _number = who.number();
         let Some(front) = count_front(text) else {
             return None;
         };

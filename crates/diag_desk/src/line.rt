@@ -55,10 +55,10 @@ pub(crate) fn entry_in(line: &[u8]) -> Option<Line<'_>>
     ensures some { IfSome result (IsRead line.now) }
     ensures none { IfNone result (IsNoEntry line.now) }
 {
-    let Some((place, kind, body)) = front_of(line) else {
+    let Some((digit, kind, body)) = front_of(line) else {
         return None;
     };
-    let Some(who) = place_in(place) else {
+    let Some(who) = who_in(digit) else {
         return None;
     };
     let Some(kind) = kind_in(kind) else {
@@ -70,19 +70,19 @@ pub(crate) fn entry_in(line: &[u8]) -> Option<Line<'_>>
     Some(Line { who, step })
 }
 
-/// The place and the kind of a line, one byte each, and what follows the space after them.
+/// The tester's digit and the kind of a line, one byte each, and what follows the space after them.
 pub(crate) fn front_of(line: &[u8]) -> Option<(u8, u8, &[u8])>
     ensures { MatchOption result (IsNoFront line.now) (λ parts.
         line.now ≡ fronted parts.0 parts.1 parts.2.now) }
 {
     match line {
-        [place, b' ', kind, b' ', body @ ..] => Some((*place, *kind, body)),
+        [digit, b' ', kind, b' ', body @ ..] => Some((*digit, *kind, body)),
         _ => None,
     }
 }
 
-/// The tester whose place is a digit.
-pub(crate) fn place_in(digit: u8) -> Option<TesterId>
+/// The tester whose number is a digit.
+pub(crate) fn who_in(digit: u8) -> Option<TesterId>
     ensures some { IfSome result (λ who. (48 + who ≡ digit) × (1 ≤ who) × (who ≤ 8)) }
     ensures none { IfNone result ((who : ℕ) → 1 ≤ who → who ≤ 8 → 48 + who ≢ digit) }
 {

@@ -68,7 +68,7 @@ fn replay_all(alloc: Global, setup: &Setup, journal: &Journal) -> Result<Ecu, Re
         let Some(entry) = journal.get(index) else {
             unreachable!();
         };
-        if setup.testers() < usize::from(entry.who.place()) {
+        if setup.testers() < usize::from(entry.who.number()) {
             return Err(ReplayFault::Differs(index + 1));
         }
         match play(&mut ecu, &entry) {

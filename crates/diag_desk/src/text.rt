@@ -17,7 +17,7 @@ use std::mem;
 /// The text of version 1: the line `diag-journal 1`, then a line for each entry, each ended by LF.
 ///
 /// A physical request is `N P REQ REPLY`, a functional one `N F REQ REPLY`, ticks are `N T COUNT`. N is the tester's
-/// place; a message is in upper-case hex, no reply is `-`. There is none where memory is refused.
+/// number; a message is in upper-case hex, no reply is `-`. There is none where memory is refused.
 pub fn journal_text(alloc: Global, journal: &Journal) -> Result<Vec<u8>, AllocError>
     ensures { IfOk result (λ text. text.items ≡ journal_text journal.now.entries) }
 {
@@ -193,13 +193,13 @@ fn add_entry(text: &mut Vec<u8>, who: TesterId, step: &StepRef<'_>, reply: Optio
     match *step {
         StepRef::Request { functional, bytes } => {
             let kind = if functional { b'F' } else { b'P' };
-            add_bytes(text, &[b'0' + who.place(), b' ', kind, b' ']);
+            add_bytes(text, &[b'0' + who.number(), b' ', kind, b' ']);
             add_hex(text, bytes);
             text.push_reserved(b' ');
             add_reply(text, reply);
         }
         StepRef::Ticks(count) => {
-            add_bytes(text, &[b'0' + who.place(), b' ', b'T', b' ']);
+            add_bytes(text, &[b'0' + who.number(), b' ', b'T', b' ']);
             add_decimal(text, u64::from(count.get()));
         }
     }

@@ -7,7 +7,7 @@ ghost use Rattle.diag_desk.specs.Line.{fronted, kind_code, request_kind};
 ghost use Rattle.diag_desk.specs.Text.{reply_text};
 
 use crate::flat::{bytes_of, tell_bytes};
-use crate::line::{Kind, front_of, kind_in, place_in};
+use crate::line::{Kind, front_of, kind_in, who_in};
 use crate::sixteen::{is_upper_of, upper_front};
 use crate::table::pair_value;
 use diag_can::{FrameBytes, TickCount, hex_digits};
@@ -46,16 +46,16 @@ pub(crate) struct CountFront<'a> {
     pub rest: &'a [u8],
 }
 
-/// The place and the kind at the front of a text.
+/// The tester and the kind at the front of a text.
 pub(crate) fn line_front(text: &[u8]) -> Option<LineFront<'_>>
-    ensures place { IfSome result (λ front. (1 ≤ front.who) × (front.who ≤ 8)) }
+    ensures number { IfSome result (λ front. (1 ≤ front.who) × (front.who ≤ 8)) }
     ensures is { IfSome result (λ front.
         text.now ≡ fronted (48 + front.who) (kind_code front.kind) front.rest.now) }
 {
-    let Some((place, letter, rest)) = front_of(text) else {
+    let Some((digit, letter, rest)) = front_of(text) else {
         return None;
     };
-    let Some(who) = place_in(place) else {
+    let Some(who) = who_in(digit) else {
         return None;
     };
     let Some(kind) = kind_in(letter) else {

@@ -36,13 +36,13 @@ found_at_once test (row ∷ rows) none =
       | false ↦ rest
     ]
 
-after_by : (s : State) (who : ℕ) (p : List ℕ) (place : Option ℕ) (rule : Option AnswerRow) → (ecu.decision_by s who p place rule).after_ms ≡ after_of rule
-after_by s who p place None = refl
-after_by s who p place (Some row) = refl
+after_by : (s : State) (who : ℕ) (p : List ℕ) (index : Option ℕ) (rule : Option AnswerRow) → (ecu.decision_by s who p index rule).after_ms ≡ after_of rule
+after_by s who p index None = refl
+after_by s who p index (Some row) = refl
 
 pub none_later : (s : State) (who : ℕ) (p : List ℕ) → ecu.may_delay s ≡ false → ecu.delay s who p ≡ 0
 none_later s who p none =
-    after_by s who p (ecu.place_for s who p) (ecu.rule_for s who p)
+    after_by s who p (ecu.index_for s who p) (ecu.rule_for s who p)
     ∙ found_at_once (answers.applies (ecu.access_of s who) p) s.answers none
 
 -- ---- no move changes whether one may
@@ -86,10 +86,10 @@ own_keeps : (s : State) (who : ℕ) (service : Option Service) (p : List ℕ) �
 own_keeps s who None p = refl
 own_keeps s who (Some service) p = served_keeps s who service p (first_holding (ecu.checks s who service p))
 
-answered_keeps : (s : State) (who place : ℕ) → KeepsDelays s (ecu.answered s who place)
-answered_keeps s who place =
-    let moved : State = record s { answers = answers.rows_moved_on s.answers place } in
-    entered_keeps moved who (ecu.enter_of (slice_get s.answers place)) ∙ late_stays s.answers place
+answered_keeps : (s : State) (who index : ℕ) → KeepsDelays s (ecu.answered s who index)
+answered_keeps s who index =
+    let moved : State = record s { answers = answers.rows_moved_on s.answers index } in
+    entered_keeps moved who (ecu.enter_of (slice_get s.answers index)) ∙ late_stays s.answers index
 
 pub request_keeps : (s : State) (who : ℕ) (p : List ℕ) → ecu.may_delay (ecu.after_request s who p) ≡ ecu.may_delay s
 request_keeps s who p =

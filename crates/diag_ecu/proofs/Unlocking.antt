@@ -269,10 +269,10 @@ outcome_unlocks s who p holder level unlocked =
     ] refl unlocked
 
 -- and a row's answer unlocks nothing
-answered_keeps : (s : State) (who place : ℕ) → Keeps s (ecu.answered s who place)
-answered_keeps s who place =
-    let moved : State = record s { answers = answers.rows_moved_on s.answers place } in
-    keeps_then s moved (ecu.answered s who place) (inl (refl, refl)) (entered_keeps moved who (ecu.enter_of (slice_get s.answers place)))
+answered_keeps : (s : State) (who index : ℕ) → Keeps s (ecu.answered s who index)
+answered_keeps s who index =
+    let moved : State = record s { answers = answers.rows_moved_on s.answers index } in
+    keeps_then s moved (ecu.answered s who index) (inl (refl, refl)) (entered_keeps moved who (ecu.enter_of (slice_get s.answers index)))
 
 and_own : {A B : Type 0} (C : Type 0) → C → A ⊎ B → A ⊎ (B × C)
 and_own C own (inl a) = inl a
@@ -360,9 +360,9 @@ served_rules : (s : State) (who : ℕ) (service : Option Service) (p : List ℕ)
 served_rules s who None p = λ id. refl
 served_rules s who (Some service) p = outcome_rules s who service p (first_holding (ecu.checks s who service p))
 
-answered_rules : (s : State) (who place : ℕ) → SameRules s (ecu.answered s who place)
-answered_rules s who place =
-    entered_rules (record s { answers = answers.rows_moved_on s.answers place }) who (ecu.enter_of (slice_get s.answers place))
+answered_rules : (s : State) (who index : ℕ) → SameRules s (ecu.answered s who index)
+answered_rules s who index =
+    entered_rules (record s { answers = answers.rows_moved_on s.answers index }) who (ecu.enter_of (slice_get s.answers index))
 
 pub request_rules : (s : State) (who : ℕ) (p : List ℕ) → SameRules s (ecu.after_request s who p)
 request_rules s who p =

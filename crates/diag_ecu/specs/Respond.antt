@@ -322,17 +322,17 @@ abbrev pub enter_of : Option AnswerRow → ℕ
 enter_of None = 0
 enter_of (Some row) = row.enter
 
--- the state once the row at a place has answered: its next template moves on, and the tester goes to the row's session
+-- the state once the row at an index has answered: its next template moves on, and the tester goes to the row's session
 abbrev pub answered : State → ℕ → ℕ → State
-answered s who place = entered (record s { answers = answers.rows_moved_on s.answers place }) who
-    (enter_of (slice_get s.answers place))
+answered s who index = entered (record s { answers = answers.rows_moved_on s.answers index }) who
+    (enter_of (slice_get s.answers index))
 
 -- the state after an effect
 abbrev pub done : State → ℕ → List ℕ → Effect → State
 done s who p Nothing = s
 done s who p (Serve service) = effect s who service p
 done s who p CountWrongKey = record s { security = security.after_wrong_key s.security who }
-done s who p (Answer place) = answered s who place
+done s who p (Answer index) = answered s who index
 
 -- ---- what the services answer
 
@@ -388,12 +388,12 @@ access_of s who = record {
   unlocked = if is_holder s who then s.security.unlocked else None;
 }
 
--- the row that decides, the first that applies, and its place
+-- the row that decides, the first that applies, and its index
 abbrev pub rule_for : State → ℕ → List ℕ → Option AnswerRow
 rule_for s who p = answers.row_for s.answers (access_of s who) p
 
-abbrev pub place_for : State → ℕ → List ℕ → Option ℕ
-place_for s who p = answers.place_for s.answers (access_of s who) p
+abbrev pub index_for : State → ℕ → List ℕ → Option ℕ
+index_for s who p = answers.index_for s.answers (access_of s who) p
 
 -- whether it answers, and doesn't leave that to the services
 abbrev pub rule_answers : Option AnswerRow → Bool
@@ -423,22 +423,22 @@ reply_by s who functional p None = own_reply s who functional p
 reply_by s who functional p (Some row) =
     if answers.has_reply row then reply_of_row s who p row else own_reply s who functional p
 
--- what a request does by the row at a place
+-- what a request does by the row at an index
 abbrev pub effect_by : State → ℕ → List ℕ → ℕ → AnswerRow → Effect
-effect_by s who p place row =
-    if answers.has_reply row then (if is_barred s who row then Nothing else Answer place)
+effect_by s who p index row =
+    if answers.has_reply row then (if is_barred s who row then Nothing else Answer index)
     else (outcome s who p).effect
 
 abbrev pub decision_by : State → ℕ → List ℕ → Option ℕ → Option AnswerRow → Decision
-decision_by s who p place None = record { effect = (outcome s who p).effect; after_ms = 0 }
-decision_by s who p place (Some row) =
-    record { effect = effect_by s who p (unwrap_or place 0) row; after_ms = row.after_ms }
+decision_by s who p index None = record { effect = (outcome s who p).effect; after_ms = 0 }
+decision_by s who p index (Some row) =
+    record { effect = effect_by s who p (unwrap_or index 0) row; after_ms = row.after_ms }
 
 -- ---- the response
 
 -- what a request does, and how long after it its answer goes
 abbrev pub decision : State → ℕ → List ℕ → Decision
-decision s who p = decision_by s who p (place_for s who p) (rule_for s who p)
+decision s who p = decision_by s who p (index_for s who p) (rule_for s who p)
 
 abbrev pub delay : State → ℕ → List ℕ → ℕ
 delay s who p = (decision s who p).after_ms

@@ -31,7 +31,7 @@ is_open s who level =
 abbrev pub relocked : State → State
 relocked s = record s { security = security.locked s.security }
 
--- relocked, the setting of status bits is on, and all routines are idle
+-- relocked, the DTC setting is on, and all routines are idle
 abbrev pub cleaned : State → State
 cleaned s = record s {
   security = security.locked s.security;

@@ -6,10 +6,10 @@ ghost use Rattle.diag_ecu.specs.Respond.{common_checks, own_checks, checks, afte
 ghost use Rattle.diag_ecu.specs.Service.{row as row_of};
 
 use crate::bytes::sub_of;
+use crate::dtcs::setting_refusal;
 use crate::effect::{Decision, Effect};
 use crate::service::{Nrc, Service, ServiceRow};
 use crate::session::DEFAULT_SESSION;
-use crate::trouble_codes::setting_refusal;
 use crate::write_data::write_reply;
 use diag_can::FrameBytes;
 use diag_pdu::Message;
@@ -237,7 +237,7 @@ impl Ecu {
             Effect::Nothing => {}
             Effect::Serve(service) => self.serve(who, service, p),
             Effect::CountWrongKey => self.security.count_wrong_key(who),
-            Effect::Answer(place) => self.answer_by(who, place),
+            Effect::Answer(index) => self.answer_by(who, index),
         }
         self.keep_alive(who, decided.after_ms);
     }
@@ -305,7 +305,7 @@ impl Ecu {
         }
     }
 
-    /// The code of the first check that holds; where none does, the positive reply is put in its place, or none where
+    /// The NRC of the first check that holds; where none does, the positive reply is put in its place, or none where
     /// the request asks for silence. (Two services have such a function of their own: `put_presence` and `put_data`.)
     #[inline(never)]
     fn put_answer(
@@ -330,7 +330,7 @@ impl Ecu {
         Ok(None)
     }
 
-    /// The code of the first check of the service that holds.
+    /// The NRC of the first check of the service that holds.
     fn refusal(&self, who: TesterId, service: Service, row: &ServiceRow, p: &[u8]) -> Option<Nrc>
         requires some { 1 ≤ length p.now }
         requires row { row.now ≡ row_of service }
@@ -347,7 +347,7 @@ impl Ecu {
         }
     }
 
-    /// The code of the first check of this service alone that holds.
+    /// The NRC of the first check of this service alone that holds.
     fn own_refusal(&self, who: TesterId, service: Service, p: &[u8]) -> Option<Nrc>
         requires some { 1 ≤ length p.now }
         requires presence { service ≢ Service.TesterPresent }
@@ -432,7 +432,7 @@ impl Ecu {
         ensures { result ≡ is_holder self.now who }
     {
         match self.holder {
-            Some(holder) => holder.place() == who.place(),
+            Some(holder) => holder.number() == who.number(),
             None => false,
         }
     }

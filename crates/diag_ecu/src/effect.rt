@@ -13,7 +13,7 @@ pub enum Effect {
     Serve(Service),
     /// A wrong key counts, though it is refused.
     CountWrongKey,
-    /// The row of answers at this place answers: its next template moves on, and the tester goes to the row's session.
+    /// The row of answers at this index answers: its next template moves on, and the tester goes to the row's session.
     Answer(u16),
 }
 
@@ -40,7 +40,7 @@ impl Service {
 }
 
 impl Nrc {
-    /// What a request does that is refused with the code.
+    /// What a request does that is refused with the NRC.
     pub(crate) fn effect(self) -> Effect
         ensures { result ≡ refused_effect self }
     {

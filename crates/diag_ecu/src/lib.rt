@@ -3,6 +3,7 @@
 
 mod bytes;
 mod checks;
+mod dtcs;
 mod ecu;
 mod effect;
 mod read_data;
@@ -13,7 +14,6 @@ mod service;
 mod session;
 mod software;
 mod ticks;
-mod trouble_codes;
 mod write_data;
 
 pub use ecu::Ecu;

@@ -35,7 +35,7 @@ struct Reading {
 }
 
 impl Ecu {
-    /// The code of the first check of the identifiers that holds.
+    /// The NRC of the first check of the identifiers that holds.
     #[inline(never)]
     pub(crate) fn read_refusal(&self, who: TesterId, p: &[u8]) -> Option<Nrc>
         requires { 1 ≤ length p.now }
@@ -67,7 +67,7 @@ impl Ecu {
         Ok(Message::from_vec(bytes))
     }
 
-    /// The code of the first check that holds of a request to read data; where none does, the reply is put in its
+    /// The NRC of the first check that holds of a request to read data; where none does, the reply is put in its
     /// place. Most requests ask for one identifier, which is looked for once.
     #[inline(always)]
     pub(crate) fn put_data(
@@ -151,7 +151,7 @@ impl Ecu {
         Ok(Some(Message::in_place(bytes)))
     }
 
-    /// The value of an identifier, or the code of the first check that holds of it.
+    /// The value of an identifier, or the NRC of the first check that holds of it.
     #[inline(always)]
     fn value_for(&self, who: TesterId, high: u8, low: u8) -> Result<&[u8], Nrc>
         ensures refused { IfErr result (λ nrc.

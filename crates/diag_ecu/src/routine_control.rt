@@ -13,7 +13,7 @@ use diag_store::RoutineState;
 use std::alloc::AllocError;
 
 impl Ecu {
-    /// The code of the first check of a routine that holds.
+    /// The NRC of the first check of a routine that holds.
     #[inline(never)]
     pub(crate) fn routine_refusal(&self, who: TesterId, p: &[u8]) -> Option<Nrc>
         requires { length p.now ≡ 4 }

@@ -2,7 +2,7 @@
 //! has no row.
 ghost use Rattle.std.specs.Prelude.{◌≡◌, ◌≤◌, length, option_map, Some, IfOk, IfSome, OnOk};
 ghost use Rattle.diag_store.specs.Answers.{row_reply};
-ghost use Rattle.diag_ecu.specs.Respond.{access_of, answered, decision, delay, effect_by, is_barred, place_for, reply, reply_by, rule_for, template_for};
+ghost use Rattle.diag_ecu.specs.Respond.{access_of, answered, decision, delay, effect_by, index_for, is_barred, reply, reply_by, rule_for, template_for};
 
 use crate::ecu::{Ecu, negative_reply};
 use crate::effect::{Decision, Effect};
@@ -31,14 +31,14 @@ impl Ecu {
         ensures reply { OnOk result (answer.new ≡ reply self.now who functional p.now) }
         ensures decision { IfOk result (λ d. d ≡ decision self.now who p.now) }
     {
-        let Some((place, row)) = self.rule_for(who, p) else {
+        let Some((index, row)) = self.rule_for(who, p) else {
             let effect = self.put_own(who, functional, p, answer)?;
             return Ok(Decision {
                 effect,
                 after_ms: 0,
             });
         };
-        let effect = self.put_by(who, functional, p, place, row, answer)?;
+        let effect = self.put_by(who, functional, p, index, row, answer)?;
         Ok(Decision {
             effect,
             after_ms: row.after_ms,
@@ -53,8 +53,8 @@ impl Ecu {
         ensures { result ≡ decision self.now who p.now }
     {
         match self.rule_for(who, p) {
-            Some((place, row)) => Decision {
-                effect: self.effect_by(who, p, place, row),
+            Some((index, row)) => Decision {
+                effect: self.effect_by(who, p, index, row),
                 after_ms: row.after_ms,
             },
             None => Decision {
@@ -77,17 +77,17 @@ impl Ecu {
         }
     }
 
-    /// The row at a place answers: its next template moves on, and the tester goes to the row's session.
+    /// The row at an index answers: its next template moves on, and the tester goes to the row's session.
     #[cold]
     #[inline(never)]
-    pub(crate) fn answer_by(&mut self, who: TesterId, place: u16)
-        ensures { self.new ≡ answered self.old who place }
+    pub(crate) fn answer_by(&mut self, who: TesterId, index: u16)
+        ensures { self.new ≡ answered self.old who index }
     {
-        let enter = match self.answers.row(place) {
+        let enter = match self.answers.row(index) {
             Some(row) => row.enter,
             None => 0,
         };
-        self.answers.move_on(place);
+        self.answers.move_on(index);
         self.enter(who, enter);
     }
 
@@ -106,10 +106,10 @@ impl Ecu {
         Some(row.template_now())
     }
 
-    /// The row that decides, behind its place.
+    /// The row that decides, behind its index.
     fn rule_for(&self, who: TesterId, p: &[u8]) -> Option<(u16, &AnswerRow)>
         requires { 1 ≤ length p.now }
-        ensures place { option_map (λ found. found.0) result ≡ place_for self.now who p.now }
+        ensures index { option_map (λ found. found.0) result ≡ index_for self.now who p.now }
         ensures row { option_map (λ found. found.1.now) result ≡ rule_for self.now who p.now }
     {
         self.answers.row_for(self.access_of(who), p)
@@ -143,10 +143,10 @@ impl Ecu {
         row.enter > DEFAULT_SESSION && self.is_held_by_another(who)
     }
 
-    /// What a request does by the row at a place.
-    fn effect_by(&self, who: TesterId, p: &[u8], place: u16, row: &AnswerRow) -> Effect
+    /// What a request does by the row at an index.
+    fn effect_by(&self, who: TesterId, p: &[u8], index: u16, row: &AnswerRow) -> Effect
         requires { 1 ≤ length p.now }
-        ensures { result ≡ effect_by self.now who p.now place row.now }
+        ensures { result ≡ effect_by self.now who p.now index row.now }
     {
         if !row.has_reply() {
             return self.effect(who, p);
@@ -154,23 +154,23 @@ impl Ecu {
         if self.is_barred(who, row) {
             return Effect::Nothing;
         }
-        Effect::Answer(place)
+        Effect::Answer(index)
     }
 
-    /// Puts the reply by the row at a place in its place, and tells what the request does.
+    /// Puts the reply by the row at an index in its place, and tells what the request does.
     fn put_by(
         &self,
         who: TesterId,
         functional: bool,
         p: &[u8],
-        place: u16,
+        index: u16,
         row: &AnswerRow,
         answer: &mut Option<Message>,
     ) -> Result<Effect, AllocError>
         requires { 1 ≤ length p.now }
         ensures reply { OnOk result
             (answer.new ≡ reply_by self.now who functional p.now (Some row.now)) }
-        ensures effect { IfOk result (λ e. e ≡ effect_by self.now who p.now place row.now) }
+        ensures effect { IfOk result (λ e. e ≡ effect_by self.now who p.now index row.now) }
     {
         if !row.has_reply() {
             return self.put_own(who, functional, p, answer);
@@ -180,7 +180,7 @@ impl Ecu {
             return Ok(Effect::Nothing);
         }
         *answer = self.row_reply(row, p)?;
-        Ok(Effect::Answer(place))
+        Ok(Effect::Answer(index))
     }
 
     /// What a row answers; no bytes are no message.

@@ -13,7 +13,7 @@ use diag_store::{KeyAnswer, SeedAnswer};
 use std::alloc::AllocError;
 
 impl Ecu {
-    /// The code of the first check of a seed or key that holds.
+    /// The NRC of the first check of a seed or key that holds.
     #[inline(never)]
     pub(crate) fn security_refusal(&self, who: TesterId, p: &[u8]) -> Option<Nrc>
         requires long { 2 ≤ length p.now }

@@ -34,7 +34,7 @@ impl Ecu {
         say(&[0x50, sub_of(p), p2_high, p2_low, star_high, star_low])
     }
 
-    /// The code of the first check that holds of TesterPresent; where none does, the reply is put in its place, or none
+    /// The NRC of the first check that holds of TesterPresent; where none does, the reply is put in its place, or none
     /// where the request asks for silence.
     #[inline(always)]
     pub(crate) fn put_presence(
@@ -93,7 +93,7 @@ impl Ecu {
         }
     }
 
-    /// The session ends: all is locked, the setting of status bits is on, and the routines are idle.
+    /// The session ends: all is locked, the DTC setting is on, and the routines are idle.
     pub(crate) fn end_session(&mut self)
         ensures { self.new ≡ session_ended self.old }
     {

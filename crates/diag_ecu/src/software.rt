@@ -21,7 +21,7 @@ impl Ecu {
         self.dids.write(id, value)
     }
 
-    /// Gives a DTC another statusOfDTC, also where ControlDTCSetting holds status bits; whether the code is known.
+    /// Gives a DTC another statusOfDTC, also where ControlDTCSetting holds status bits; whether the DTC is known.
     pub fn set_status(&mut self, code: u32, status: u8) -> bool
         ensures known { result ≡ is_some (status_of self.old.dtcs code) }
         ensures set { self.new ≡ record self.old { dtcs = with_status self.old.dtcs code status } }

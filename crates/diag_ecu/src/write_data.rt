@@ -12,7 +12,7 @@ use diag_pdu::Message;
 use diag_setup::TesterId;
 
 impl Ecu {
-    /// The code of the first check of a value to be written that holds.
+    /// The NRC of the first check of a value to be written that holds.
     #[inline(never)]
     pub(crate) fn write_refusal(&self, who: TesterId, p: &[u8]) -> Option<Nrc>
         requires { 4 ≤ length p.now }

@@ -6,13 +6,13 @@ use Rattle.std.specs.List.{filter, find, list_any}
 use Rattle.std.specs.Option.{option_or}
 use Rattle.std.specs.Prelude.{cond, if◌then◌else◌, ◌||◌, ◌&&◌, not, is_some}
 use Rattle.diag_exchange.specs.declared.happening.Heard.{Heard}
-use Rattle.diag_exchange.specs.declared.happening.Request.{Request}
+use Rattle.diag_exchange.specs.declared.happening.AskedRequest.{AskedRequest}
 use Rattle.diag_exchange.specs.declared.happening.Start.{Start}
-use Rattle.diag_exchange.specs.declared.held.Open.{Open}
+use Rattle.diag_exchange.specs.declared.open.Open.{Open}
 use Rattle.diag_exchange.specs.Asking.{Behind, Course, and_behind, answer, asked, fits, hearing, hears_it, hears_no_more, is_answered, is_candidate, is_final, is_pending, is_replaced, replaced_by, replaces, with_answer}
 use Rattle.diag_exchange.specs.Exchanges.{closes, is_closed, is_over, pendings}
 use Rattle.diag_exchange.specs.Streaming.{is_done, kept}
-use Rattle.diag_exchange.specs.Streaming as held
+use Rattle.diag_exchange.specs.Streaming as streaming
 use Rattle.diag_exchange.proofs.Lists.{and_true, not_true, or_false}
 
 abbrev pub was_answered : Behind → Bool
@@ -75,7 +75,7 @@ module _ (c : Course) where
   -- ---- what is kept
 
   -- one more request behind it
-  pub kept_behind : (r : Request) → kept (and_behind r c) ≡ held.asked_again r (kept c)
+  pub kept_behind : (r : AskedRequest) → kept (and_behind r c) ≡ streaming.asked_again r (kept c)
   kept_behind r = ap (λ g. record (kept c) { replaced = g })
       (list_any-append (replaced_by c.request) c.behind (record { request = r; answered = is_answered c } ∷ [])
       ∙ ap (λ g. is_replaced c || g) (or_false (replaces r c.request)))
@@ -93,7 +93,7 @@ module _ (c : Course) where
   made n o = record (kept c) { pendings = n; answer = o; hears = false }
 
   kept_case : (m : Heard) → is_answered c ≡ false → (o : Option Heard) → answer c ≡ o → (p : Bool) → is_pending m ≡ p
-      → kept (with_answer m c) ≡ held.with_message m (kept c)
+      → kept (with_answer m c) ≡ streaming.with_message m (kept c)
   kept_case m e (Some n) is p pend = absurd (false_true (sym e ∙ ap is_some is))
   kept_case m e None is true pend =
       ap₂ made (pendings_more m ∙ ap (λ b. if b then pendings c + 1 else pendings c) pend)
@@ -105,7 +105,7 @@ module _ (c : Course) where
       ∙ sym (ap (λ b. if b then made (pendings c + 1) (answer c) else made (pendings c) (Some m)) pend)
 
   -- a message answers it
-  pub kept_answer : (m : Heard) → is_answered c ≡ false → kept (with_answer m c) ≡ held.with_message m (kept c)
+  pub kept_answer : (m : Heard) → is_answered c ≡ false → kept (with_answer m c) ≡ streaming.with_message m (kept c)
   kept_answer m e = kept_case m e (answer c) refl (is_pending m) refl
 
   module _ (s : IsSound c) where
@@ -127,12 +127,12 @@ module _ (c : Course) where
     open_goes_on e = not_open (list_any was_answered c.behind) (is_replaced c) c.hears (ap (λ b. b && not c.hears) (sym closed_by) ∙ e)
 
     -- one more request behind it
-    pub over_behind : (r : Request) → is_over c ≡ true → is_over (and_behind r c) ≡ true
+    pub over_behind : (r : AskedRequest) → is_over c ≡ true → is_over (and_behind r c) ≡ true
     over_behind r e =
         ap (λ b. b && not c.hears) (list_any-append (closes c.request) c.behind (record { request = r; answered = is_answered c } ∷ []))
         ∙ still_over (is_closed c) (closes c.request (record { request = r; answered = is_answered c }) || false) (not c.hears) e
 
-    pub done_behind : (r : Request) → is_over (and_behind r c) ≡ is_done true (held.asked_again r (kept c))
+    pub done_behind : (r : AskedRequest) → is_over (and_behind r c) ≡ is_done true (streaming.asked_again r (kept c))
     done_behind r =
         ap (λ b. b && not c.hears) (list_any-append (closes c.request) c.behind (record { request = r; answered = is_answered c } ∷ [])
         ∙ (ap (λ b. b || ((is_answered c || replaces r c.request) || false)) closed_by
@@ -151,7 +151,7 @@ module _ (c : Course) where
 
     -- ---- it stays sound
 
-    pub sound_behind : (r : Request) → IsSound (and_behind r c)
+    pub sound_behind : (r : AskedRequest) → IsSound (and_behind r c)
     sound_behind r = record {
       stays = λ e. answered_then (list_any was_answered c.behind) (is_answered c) s.stays
           (sym (list_any-append was_answered c.behind (record { request = r; answered = is_answered c } ∷ [])) ∙ e);
@@ -174,5 +174,5 @@ module _ (c : Course) where
       quiet = λ e. absurd (false_true e);
     }
 
-pub sound_asked : (r : Request) → IsSound (asked r)
+pub sound_asked : (r : AskedRequest) → IsSound (asked r)
 sound_asked r = record { stays = λ e. absurd (false_true e); quiet = λ e. absurd (false_true e) }

@@ -8,19 +8,19 @@ use Rattle.diag_exchange.specs.declared.happening.Expected.{Expected}
 use Rattle.diag_exchange.specs.declared.happening.Heard.{Heard}
 use Rattle.diag_exchange.specs.declared.happening.Over.{Over}
 use Rattle.diag_exchange.specs.declared.happening.Over.TheVariants.{Exchange, Unasked}
-use Rattle.diag_exchange.specs.declared.happening.Place.{Place}
-use Rattle.diag_exchange.specs.declared.happening.Request.{Request}
+use Rattle.diag_exchange.specs.declared.happening.CaptureLine.{CaptureLine}
+use Rattle.diag_exchange.specs.declared.happening.AskedRequest.{AskedRequest}
 use Rattle.diag_exchange.specs.declared.happening.Start.{Start}
 
-abbrev place : ℕ → Place
-place n = record { line = n; moment = 10 * n }
+abbrev line : ℕ → CaptureLine
+line n = record { number = n; moment = 10 * n }
 
 -- a reply of the model, of which all bytes count
 abbrev replies : Option (List ℕ) → Expected
 replies reply = record { reply = reply; varies = None; own = true; ignored = false }
 
-abbrev at : ℕ → List ℕ → Option (List ℕ) → Request
-at n bytes reply = record { at = place n; functional = false; bytes = bytes; expected = replies reply }
+abbrev at : ℕ → List ℕ → Option (List ℕ) → AskedRequest
+at n bytes reply = record { at = line n; functional = false; bytes = bytes; expected = replies reply }
 
 abbrev second : List ℕ → Option ℕ
 second (a ∷ b ∷ bytes) = Some b
@@ -32,7 +32,7 @@ first [] = 0
 
 -- the first frame of a message, on line n
 abbrev start : ℕ → List ℕ → Start
-start n bytes = record { at = place n; first = first bytes; second = second bytes }
+start n bytes = record { at = line n; first = first bytes; second = second bytes }
 
 abbrev heard : ℕ → List ℕ → Heard
 heard n bytes = record { start = start n bytes; bytes = bytes }
@@ -262,9 +262,9 @@ abbrev other_rest : List ℕ
 other_rest = 0x01 ∷ 0x03 ∷ []
 
 abbrev exchanged : Expected → Option (List ℕ) → Over
-exchanged expected None = Exchange (record { at = place 1; functional = false; bytes = read_vin; expected = expected }) 0 None
+exchanged expected None = Exchange (record { at = line 1; functional = false; bytes = read_vin; expected = expected }) 0 None
 exchanged expected (Some sent) =
-    Exchange (record { at = place 1; functional = false; bytes = read_vin; expected = expected }) 0 (Some (heard 2 sent))
+    Exchange (record { at = line 1; functional = false; bytes = read_vin; expected = expected }) 0 (Some (heard 2 sent))
 
 abbrev lists : List (List ℕ) → List (List ℕ) → Over
 lists reply sent = exchanged (replies (Some (list reply))) (Some (list sent))

@@ -8,9 +8,9 @@ use Rattle.std.specs.Prelude.{cond, if◌then◌else◌, not, ◌&&◌, ◌||◌
 use Rattle.diag_exchange.specs.declared.happening.Happening.{Happening}
 use Rattle.diag_exchange.specs.declared.happening.Happening.TheVariants.{Asked, Began, Came, Lost}
 use Rattle.diag_exchange.specs.declared.happening.Heard.{Heard}
-use Rattle.diag_exchange.specs.declared.happening.Request.{Request}
+use Rattle.diag_exchange.specs.declared.happening.AskedRequest.{AskedRequest}
 use Rattle.diag_exchange.specs.declared.happening.Start.{Start}
-use Rattle.diag_exchange.specs.declared.held.Open.{Open}
+use Rattle.diag_exchange.specs.declared.open.Open.{Open}
 use Rattle.diag_exchange.specs.Asking.{Course, and_behind, asked, change_last, comes_in, completes, courses, courses_after, finish, first_byte, happens, hearing, hears_it, hears_no_more, is_answered, is_candidate, is_loud, is_loud_candidate, is_replaced, replaced_by, replaces, with_answer}
 use Rattle.diag_exchange.specs.Exchanges.{is_closed, is_open}
 use Rattle.diag_exchange.specs.Streaming.{StandsFor, kept}
@@ -24,7 +24,7 @@ use Rattle.diag_exchange.proofs.Lists.{Each, Pairs, and_true, each_filter, each_
 abbrev Knows : Course → Course → Type 0
 Knows c d = replaces d.request c.request ≡ true → is_replaced c ≡ true
 
-module _ (r : Request) (c : Course) where
+module _ (r : AskedRequest) (c : Course) where
   replaced_more : is_replaced (and_behind r c) ≡ (is_replaced c || (replaces r c.request || false))
   replaced_more = list_any-append (replaced_by c.request) c.behind (record { request = r; answered = is_answered c } ∷ [])
 
@@ -34,7 +34,7 @@ module _ (r : Request) (c : Course) where
   knows_more : (d : Course) → Knows c d → Knows (and_behind r c) (and_behind r d)
   knows_more d k e = replaced_more ∙ ap (λ b. b || (replaces r c.request || false)) (k e)
 
-each_new : (r : Request) (cs : List Course) → Each (λ c. Knows c (asked r)) (map (and_behind r) cs)
+each_new : (r : AskedRequest) (cs : List Course) → Each (λ c. Knows c (asked r)) (map (and_behind r) cs)
 each_new r [] = tt
 each_new r (c ∷ cs) = (knows_new r c, each_new r cs)
 

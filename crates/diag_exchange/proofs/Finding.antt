@@ -1,9 +1,9 @@
--- The last of a list that has a property, by its place.
+-- The last of a list that has a property, by its index.
 use Rattle.std.proofs.Common.{◌≡◌, ◌<◌, ℕ, zero, suc, Bool, true, false, Option, Some, None, List, [], ◌∷◌, length, drop, refl, ap, sym, subst, ◌∙◌}
 use Rattle.std.proofs.lemmas.Option.{same_Some, none-some, slice_get_read, slice_get_within}
 use Rattle.std.specs.List.{list_any}
 use Rattle.std.specs.Prelude.{IsSomeAnd, slice_get, slice_index_or, slice_set, ◌||◌}
-use Rattle.diag_exchange.specs.declared.held.Open.{Open}
+use Rattle.diag_exchange.specs.declared.open.Open.{Open}
 use Rattle.diag_exchange.specs.Asking.{change_last}
 use Rattle.diag_exchange.specs.Streaming.{IsLast}
 use Rattle.diag_exchange.proofs.Lists.{change_last_here, change_later, or_true}

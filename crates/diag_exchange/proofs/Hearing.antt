@@ -5,9 +5,9 @@ use Rattle.std.proofs.lemmas.List.Elements.{filter-append}
 use Rattle.std.specs.List.{filter, list_any}
 use Rattle.std.specs.Prelude.{cond, if◌then◌else◌, ◌||◌}
 use Rattle.diag_exchange.specs.declared.happening.Heard.{Heard}
-use Rattle.diag_exchange.specs.declared.happening.Request.{Request}
+use Rattle.diag_exchange.specs.declared.happening.AskedRequest.{AskedRequest}
 use Rattle.diag_exchange.specs.declared.happening.Start.{Start}
-use Rattle.diag_exchange.specs.declared.held.Open.{Open}
+use Rattle.diag_exchange.specs.declared.open.Open.{Open}
 use Rattle.diag_exchange.specs.Asking.{change_last, is_pending}
 use Rattle.diag_exchange.specs.Streaming.{asked_again, finish, hear, hearing, hears_it, hears_no_more, may_hear, opened, with_message}
 use Rattle.diag_exchange.proofs.Lists.{change_last_here, change_later, change_not_here, or_left, or_right}
@@ -31,7 +31,7 @@ len_both : {X : Type 0} (b : Bool) (x y : X) (xs ys : List X) → length xs ≤ 
 len_both true x y xs ys e = omega (arith, e)
 len_both false x y xs ys e = e
 
-pub count_asked : (r : Request) (es : List Open) → count (map (asked_again r) es) ≡ count es
+pub count_asked : (r : AskedRequest) (es : List Open) → count (map (asked_again r) es) ≡ count es
 count_asked r [] = refl
 count_asked r (e ∷ es) = len_same e.hears (asked_again r e) e (filter hears_it (map (asked_again r) es)) (filter hears_it es) (count_asked r es)
 
@@ -110,7 +110,7 @@ module _ (f : Open → Open) (off : (e : Open) → (f e).hears ≡ false) where
 
 -- ---- with a happening more
 
-pub count_opened : (r : Request) (es : List Open) → count (es ++ opened r ∷ []) ≡ count es
+pub count_opened : (r : AskedRequest) (es : List Open) → count (es ++ opened r ∷ []) ≡ count es
 count_opened r es = ap length (filter-append hears_it es (opened r ∷ []) ∙ append-nil (filter hears_it es))
 
 pub count_hear : (start : Start) (es : List Open) → count (hear start es) ≤ suc (count es)

@@ -11,7 +11,7 @@ use Rattle.diag_exchange.specs.declared.happening.Happening.TheVariants.{Asked, 
 use Rattle.diag_exchange.specs.declared.happening.Heard.{Heard}
 use Rattle.diag_exchange.specs.declared.happening.Over.{Over}
 use Rattle.diag_exchange.specs.declared.happening.Over.TheVariants.{Unasked}
-use Rattle.diag_exchange.specs.declared.happening.Request.{Request}
+use Rattle.diag_exchange.specs.declared.happening.AskedRequest.{AskedRequest}
 use Rattle.diag_exchange.specs.declared.happening.Start.{Start}
 use Rattle.diag_exchange.specs.Asking.{Course, and_behind, asked, change_last, coming, completes, courses, finish, happens, hearing, hears_it, hears_no_more, is_candidate, is_loud, is_loud_candidate, with_answer}
 use Rattle.diag_exchange.specs.Exchanges.{exchange, is_open, is_over, left_open, newly_over, over, over_after, over_at_end, over_with, unasked}
@@ -51,7 +51,7 @@ module _ (p : Course → Bool) (f : Course → Course) (opens : (c : Course) →
   follows_change [] s = tt
   follows_change (c ∷ cs) s = follows_case c cs s.0 (follows_change cs s.1) (list_any p cs) (p c) refl refl
 
-follows_asked : (r : Request) (cs : List Course) → Each IsSound cs → Follows cs (map (and_behind r) cs ++ asked r ∷ [])
+follows_asked : (r : AskedRequest) (cs : List Course) → Each IsSound cs → Follows cs (map (and_behind r) cs ++ asked r ∷ [])
 follows_asked r [] s = (refl, tt)
 follows_asked r (c ∷ cs) s = ((λ e. (over_behind c s.0 r e, refl)), follows_asked r cs s.1)
 

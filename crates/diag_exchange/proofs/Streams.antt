@@ -6,13 +6,13 @@ use Rattle.diag_exchange.specs.declared.happening.Happening.{Happening}
 use Rattle.diag_exchange.specs.declared.happening.Happening.TheVariants.{Asked, Began, Came, Lost}
 use Rattle.diag_exchange.specs.declared.happening.Heard.{Heard}
 use Rattle.diag_exchange.specs.declared.happening.Over.{Over}
-use Rattle.diag_exchange.specs.declared.happening.Request.{Request}
+use Rattle.diag_exchange.specs.declared.happening.AskedRequest.{AskedRequest}
 use Rattle.diag_exchange.specs.declared.happening.Start.{Start}
-use Rattle.diag_exchange.specs.declared.held.Open.{Open}
+use Rattle.diag_exchange.specs.declared.open.Open.{Open}
 use Rattle.diag_exchange.specs.Asking.{Course, and_behind, asked, change_last, completes, finish, happens, hear, hearing, hears_it, hears_no_more, is_candidate, is_loud, is_loud_candidate, with_answer}
 use Rattle.diag_exchange.specs.Exchanges.{exchange, is_closed, is_open, is_over, newly_over}
 use Rattle.diag_exchange.specs.Streaming.{goes_on, is_done, kept, opened, told}
-use Rattle.diag_exchange.specs.Streaming as held
+use Rattle.diag_exchange.specs.Streaming as streaming
 use Rattle.diag_exchange.proofs.Courses.{IsSound, candidate_open, done_answer, done_behind, done_hearing, done_hushed, hearing_open, kept_answer, kept_behind, open_goes_on, over_behind, sound_answer, sound_asked, sound_behind, sound_hearing, sound_hushed}
 use Rattle.diag_exchange.proofs.Lists.{Each, and_true, change_last_here, change_later, change_none, change_not_here, each_change, each_map, each_push, filter_all, filter_none, map_cond}
 
@@ -172,24 +172,24 @@ module _ (p : Course → Bool) (f : Course → Course) (q : Open → Bool) (g : 
 
 -- ---- one more request
 
-module _ (r : Request) where
+module _ (r : AskedRequest) where
   abbrev AskedLeft : List Course → Type 0
-  AskedLeft cs = open_of (map (and_behind r) cs) ≡ filter (goes_on true) (map (held.asked_again r) (open_of cs))
+  AskedLeft cs = open_of (map (and_behind r) cs) ≡ filter (goes_on true) (map (streaming.asked_again r) (open_of cs))
 
   abbrev AskedGone : List Course → Type 0
-  AskedGone cs = map exchange (newly_over cs (map (and_behind r) cs ++ asked r ∷ [])) ≡ map told (filter (is_done true) (map (held.asked_again r) (open_of cs)))
+  AskedGone cs = map exchange (newly_over cs (map (and_behind r) cs ++ asked r ∷ [])) ≡ map told (filter (is_done true) (map (streaming.asked_again r) (open_of cs)))
 
   abbrev next : Course → Open
-  next c = held.asked_again r (kept c)
+  next c = streaming.asked_again r (kept c)
 
   asked_left_case : (c : Course) (cs : List Course) → IsSound c → AskedLeft cs → (b : Bool) → is_over c ≡ b → AskedLeft (c ∷ cs)
   asked_left_case c cs s rest true e =
       of_over (and_behind r c) (map (and_behind r) cs) (over_behind c s r e)
-      ∙ (rest ∙ ap (λ w. filter (goes_on true) (map (held.asked_again r) w)) (sym (of_over c cs e)))
+      ∙ (rest ∙ ap (λ w. filter (goes_on true) (map (streaming.asked_again r) w)) (sym (of_over c cs e)))
   asked_left_case c cs s rest false e =
       of_done true (and_behind r c) (map (and_behind r) cs) (done_behind c s r ∙ ap (is_done true) (sym (kept_behind c r)))
       ∙ (ap₂ (λ (o : Open) (w : List Open). cond (goes_on true o) (o ∷ w) w) (kept_behind c r) rest
-      ∙ ap (λ w. filter (goes_on true) (map (held.asked_again r) w)) (sym (of_open c cs e)))
+      ∙ ap (λ w. filter (goes_on true) (map (streaming.asked_again r) w)) (sym (of_open c cs e)))
 
   pub asked_left : (cs : List Course) → Each IsSound cs → AskedLeft cs
   asked_left [] s = refl
@@ -199,14 +199,14 @@ module _ (r : Request) where
   asked_gone_case c cs s rest true e =
       ap (λ (b : Bool). map exchange (cond (not b && is_over (and_behind r c))
       (and_behind r c ∷ newly_over cs (map (and_behind r) cs ++ asked r ∷ [])) (newly_over cs (map (and_behind r) cs ++ asked r ∷ [])))) e
-      ∙ (rest ∙ ap (λ w. map told (filter (is_done true) (map (held.asked_again r) w))) (sym (of_over c cs e)))
+      ∙ (rest ∙ ap (λ w. map told (filter (is_done true) (map (streaming.asked_again r) w))) (sym (of_over c cs e)))
   asked_gone_case c cs s rest false e =
       ap₂ (λ (a b : Bool). map exchange (cond (not a && b) (and_behind r c ∷ newly_over cs (map (and_behind r) cs ++ asked r ∷ []))
       (newly_over cs (map (and_behind r) cs ++ asked r ∷ [])))) e (done_behind c s r)
       ∙ (map_cond exchange (is_done true (next c)) (and_behind r c) (newly_over cs (map (and_behind r) cs ++ asked r ∷ []))
       ∙ (ap₂ (λ (o : Open) (w : List Over). cond (is_done true (next c)) (told o ∷ w) w) (kept_behind c r) rest
-      ∙ (sym (map_cond told (is_done true (next c)) (next c) (filter (is_done true) (map (held.asked_again r) (open_of cs))))
-      ∙ ap (λ w. map told (filter (is_done true) (map (held.asked_again r) w))) (sym (of_open c cs e)))))
+      ∙ (sym (map_cond told (is_done true (next c)) (next c) (filter (is_done true) (map (streaming.asked_again r) (open_of cs))))
+      ∙ ap (λ w. map told (filter (is_done true) (map (streaming.asked_again r) w))) (sym (of_open c cs e)))))
 
   pub asked_gone : (cs : List Course) → Each IsSound cs → AskedGone cs
   asked_gone [] s = refl
@@ -214,10 +214,10 @@ module _ (r : Request) where
 
 -- ---- a message begins
 
-same_candidate : (start : Start) (c : Course) → is_candidate start c ≡ held.may_hear false start (kept c)
+same_candidate : (start : Start) (c : Course) → is_candidate start c ≡ streaming.may_hear false start (kept c)
 same_candidate start c = refl
 
-same_loud : (start : Start) (c : Course) → is_loud_candidate start c ≡ held.may_hear true start (kept c)
+same_loud : (start : Start) (c : Course) → is_loud_candidate start c ≡ streaming.may_hear true start (kept c)
 same_loud start c = refl
 
 loud_open : (start : Start) (c : Course) → IsSound c → is_loud_candidate start c ≡ true → is_over c ≡ false
@@ -227,42 +227,42 @@ module _ (start : Start) (cs : List Course) (s : Each IsSound cs) where
   abbrev any_loud : Bool
   any_loud = list_any (is_loud_candidate start) cs
 
-  loud_same : any_loud ≡ list_any (held.may_hear true start) (open_of cs)
-  loud_same = any_same (is_loud_candidate start) hearing (held.may_hear true start) held.hearing (same_loud start) (loud_open start)
+  loud_same : any_loud ≡ list_any (streaming.may_hear true start) (open_of cs)
+  loud_same = any_same (is_loud_candidate start) hearing (streaming.may_hear true start) streaming.hearing (same_loud start) (loud_open start)
       (λ c t e. refl) (λ c t e. done_hearing c t) cs s
 
-  loud_left : open_of (change_last (is_loud_candidate start) hearing cs) ≡ filter (goes_on false) (change_last (held.may_hear true start) held.hearing
+  loud_left : open_of (change_last (is_loud_candidate start) hearing cs) ≡ filter (goes_on false) (change_last (streaming.may_hear true start) streaming.hearing
       (open_of cs))
-  loud_left = left (is_loud_candidate start) hearing (held.may_hear true start) held.hearing (same_loud start) (loud_open start)
+  loud_left = left (is_loud_candidate start) hearing (streaming.may_hear true start) streaming.hearing (same_loud start) (loud_open start)
       (λ c t e. refl) (λ c t e. done_hearing c t) cs s
 
-  silent_left : open_of (change_last (is_candidate start) hearing cs) ≡ filter (goes_on false) (change_last (held.may_hear false start) held.hearing
+  silent_left : open_of (change_last (is_candidate start) hearing cs) ≡ filter (goes_on false) (change_last (streaming.may_hear false start) streaming.hearing
       (open_of cs))
-  silent_left = left (is_candidate start) hearing (held.may_hear false start) held.hearing (same_candidate start) (λ c t. candidate_open c t start)
+  silent_left = left (is_candidate start) hearing (streaming.may_hear false start) streaming.hearing (same_candidate start) (λ c t. candidate_open c t start)
       (λ c t e. refl) (λ c t e. done_hearing c t) cs s
 
   -- none of them is over with it
-  all_on : (q : Open → Bool) → filter (goes_on false) (change_last q held.hearing (open_of cs)) ≡ change_last q held.hearing (open_of cs)
-  all_on q = all_go (change_last q held.hearing (open_of cs))
-      (each_change (λ e. is_done false e ≡ false) q held.hearing (λ e d h. none_over (e.replaced || false)) (open_of cs) (none_done cs s))
+  all_on : (q : Open → Bool) → filter (goes_on false) (change_last q streaming.hearing (open_of cs)) ≡ change_last q streaming.hearing (open_of cs)
+  all_on q = all_go (change_last q streaming.hearing (open_of cs))
+      (each_change (λ e. is_done false e ≡ false) q streaming.hearing (λ e d h. none_over (e.replaced || false)) (open_of cs) (none_done cs s))
     where
       none_over : (b : Bool) → (b && not true) ≡ false
       none_over true = refl
       none_over false = refl
 
-  heard_case : (b : Bool) → any_loud ≡ b → open_of (hear start cs) ≡ held.hear start (open_of cs)
+  heard_case : (b : Bool) → any_loud ≡ b → open_of (hear start cs) ≡ streaming.hear start (open_of cs)
   heard_case true e =
       ap (λ (b : Bool). open_of (if b then change_last (is_loud_candidate start) hearing cs else change_last (is_candidate start) hearing cs)) e
-      ∙ (loud_left ∙ (all_on (held.may_hear true start)
-      ∙ ap (λ (b : Bool). if b then change_last (held.may_hear true start) held.hearing (open_of cs) else change_last
-      (held.may_hear false start) held.hearing (open_of cs)) (sym e ∙ loud_same)))
+      ∙ (loud_left ∙ (all_on (streaming.may_hear true start)
+      ∙ ap (λ (b : Bool). if b then change_last (streaming.may_hear true start) streaming.hearing (open_of cs) else change_last
+      (streaming.may_hear false start) streaming.hearing (open_of cs)) (sym e ∙ loud_same)))
   heard_case false e =
       ap (λ (b : Bool). open_of (if b then change_last (is_loud_candidate start) hearing cs else change_last (is_candidate start) hearing cs)) e
-      ∙ (silent_left ∙ (all_on (held.may_hear false start)
-      ∙ ap (λ (b : Bool). if b then change_last (held.may_hear true start) held.hearing (open_of cs) else change_last
-      (held.may_hear false start) held.hearing (open_of cs)) (sym e ∙ loud_same)))
+      ∙ (silent_left ∙ (all_on (streaming.may_hear false start)
+      ∙ ap (λ (b : Bool). if b then change_last (streaming.may_hear true start) streaming.hearing (open_of cs) else change_last
+      (streaming.may_hear false start) streaming.hearing (open_of cs)) (sym e ∙ loud_same)))
 
-  pub hear_left : open_of (hear start cs) ≡ held.hear start (open_of cs)
+  pub hear_left : open_of (hear start cs) ≡ streaming.hear start (open_of cs)
   hear_left = heard_case any_loud refl
 
 never : (a b : Bool) → (not a && (b && not true)) ≡ false
@@ -291,23 +291,23 @@ hear_gone start cs = gone_by (list_any (is_loud_candidate start) cs)
 
 -- ---- no message is coming in any more
 
-same_hears : (c : Course) → hears_it c ≡ held.hears_it (kept c)
+same_hears : (c : Course) → hears_it c ≡ streaming.hears_it (kept c)
 same_hears c = refl
 
-pub hears_same : (cs : List Course) → Each IsSound cs → list_any hears_it cs ≡ list_any held.hears_it (open_of cs)
-hears_same = any_same hears_it hears_no_more held.hears_it held.hears_no_more same_hears hearing_open (λ c s e. refl) done_hushed
+pub hears_same : (cs : List Course) → Each IsSound cs → list_any hears_it cs ≡ list_any streaming.hears_it (open_of cs)
+hears_same = any_same hears_it hears_no_more streaming.hears_it streaming.hears_no_more same_hears hearing_open (λ c s e. refl) done_hushed
 
-pub finish_left : (o : Option Heard) (cs : List Course) → Each IsSound cs → open_of (finish o cs) ≡ filter (goes_on false) (held.finish o (open_of cs))
-finish_left None = left hears_it hears_no_more held.hears_it held.hears_no_more same_hears hearing_open (λ c s e. refl) done_hushed
+pub finish_left : (o : Option Heard) (cs : List Course) → Each IsSound cs → open_of (finish o cs) ≡ filter (goes_on false) (streaming.finish o (open_of cs))
+finish_left None = left hears_it hears_no_more streaming.hears_it streaming.hears_no_more same_hears hearing_open (λ c s e. refl) done_hushed
 finish_left (Some m) =
-    left hears_it (with_answer m) held.hears_it (held.with_message m) same_hears hearing_open (λ c s e. kept_answer c m (s.quiet e))
+    left hears_it (with_answer m) streaming.hears_it (streaming.with_message m) same_hears hearing_open (λ c s e. kept_answer c m (s.quiet e))
     (λ c s e. done_answer c s m e)
 
 pub finish_gone : (o : Option Heard) (cs : List Course) → Each IsSound cs → map exchange (newly_over cs (finish o cs))
-    ≡ map told (filter (is_done false) (held.finish o (open_of cs)))
-finish_gone None = gone hears_it hears_no_more held.hears_it held.hears_no_more same_hears hearing_open (λ c s e. refl) done_hushed
+    ≡ map told (filter (is_done false) (streaming.finish o (open_of cs)))
+finish_gone None = gone hears_it hears_no_more streaming.hears_it streaming.hears_no_more same_hears hearing_open (λ c s e. refl) done_hushed
 finish_gone (Some m) =
-    gone hears_it (with_answer m) held.hears_it (held.with_message m) same_hears hearing_open (λ c s e. kept_answer c m (s.quiet e))
+    gone hears_it (with_answer m) streaming.hears_it (streaming.with_message m) same_hears hearing_open (λ c s e. kept_answer c m (s.quiet e))
     (λ c s e. done_answer c s m e)
 
 -- ---- they stay sound

@@ -10,13 +10,13 @@ use Rattle.diag_exchange.specs.declared.happening.Happening.TheVariants.{Asked, 
 use Rattle.diag_exchange.specs.declared.happening.Heard.{Heard}
 use Rattle.diag_exchange.specs.declared.happening.Over.{Over}
 use Rattle.diag_exchange.specs.declared.happening.Over.TheVariants.{Unasked}
-use Rattle.diag_exchange.specs.declared.happening.Request.{Request}
+use Rattle.diag_exchange.specs.declared.happening.AskedRequest.{AskedRequest}
 use Rattle.diag_exchange.specs.declared.happening.Start.{Start}
-use Rattle.diag_exchange.specs.declared.held.Open.{Open}
+use Rattle.diag_exchange.specs.declared.open.Open.{Open}
 use Rattle.diag_exchange.specs.Asking.{Course, and_behind, asked, comes_in, coming, coming_after, completes, courses, courses_after, happens}
 use Rattle.diag_exchange.specs.Exchanges.{exchange, is_open, newly_over, over_after, over_with, unasked}
 use Rattle.diag_exchange.specs.Streaming.{StandsFor, goes_on, is_done, kept, opened, told}
-use Rattle.diag_exchange.specs.Streaming as held
+use Rattle.diag_exchange.specs.Streaming as streaming
 use Rattle.diag_exchange.proofs.Courses.{IsSound}
 use Rattle.diag_exchange.proofs.Hearing.{count, count_asked, count_filter, count_finish, count_hear, count_opened}
 use Rattle.diag_exchange.proofs.Lists.{Each}
@@ -55,21 +55,21 @@ MayCome now h = Unit {0}
 
 abbrev pub unasked_of : List Open → Option Heard → List Over
 unasked_of es None = []
-unasked_of es (Some m) = if list_any held.hears_it es then [] else Unasked m ∷ []
+unasked_of es (Some m) = if list_any streaming.hears_it es then [] else Unasked m ∷ []
 
 -- what is left of these
 abbrev pub staying : Option Start → Happening → List Open → List Open
-staying now (Asked r) es = filter (goes_on true) (map (held.asked_again r) es) ++ opened r ∷ []
-staying now (Began start) es = held.hear start es
-staying now (Came bytes) es = filter (goes_on false) (held.finish (completes now (Came bytes)) es)
-staying now Lost es = filter (goes_on false) (held.finish None es)
+staying now (Asked r) es = filter (goes_on true) (map (streaming.asked_again r) es) ++ opened r ∷ []
+staying now (Began start) es = streaming.hear start es
+staying now (Came bytes) es = filter (goes_on false) (streaming.finish (completes now (Came bytes)) es)
+staying now Lost es = filter (goes_on false) (streaming.finish None es)
 
 -- what is over of these
 abbrev pub leaving : Option Start → Happening → List Open → List Over
-leaving now (Asked r) es = map told (filter (is_done true) (map (held.asked_again r) es))
+leaving now (Asked r) es = map told (filter (is_done true) (map (streaming.asked_again r) es))
 leaving now (Began start) es = []
-leaving now (Came bytes) es = map told (filter (is_done false) (held.finish (completes now (Came bytes)) es)) ++ unasked_of es (completes now (Came bytes))
-leaving now Lost es = map told (filter (is_done false) (held.finish None es))
+leaving now (Came bytes) es = map told (filter (is_done false) (streaming.finish (completes now (Came bytes)) es)) ++ unasked_of es (completes now (Came bytes))
+leaving now Lost es = map told (filter (is_done false) (streaming.finish None es))
 
 same_unasked : (cs : List Course) → Each IsSound cs → (o : Option Heard) → unasked_of (open_of cs) o ≡ unasked cs o
 same_unasked cs s None = refl
@@ -86,7 +86,7 @@ stays now Lost cs s = finish_left None cs s
 no_unasked : (cs : List Course) (now : Option Start) (h : Happening) → completes now h ≡ None → unasked cs (completes now h) ≡ []
 no_unasked cs now h e = ap (unasked cs) e
 
-nothing_asked : (now : Option Start) (r : Request) → completes now (Asked r) ≡ None
+nothing_asked : (now : Option Start) (r : AskedRequest) → completes now (Asked r) ≡ None
 nothing_asked None r = refl
 nothing_asked (Some s) r = refl
 
@@ -114,17 +114,17 @@ few_start : (o : Option Start) → length (option_to_list o) ≤ 1
 few_start None = omega arith
 few_start (Some s) = omega arith
 
-fewest : (es : List Open) (o : Option Heard) → count es ≤ 1 → count (filter (goes_on false) (held.finish o es)) ≤ 0
+fewest : (es : List Open) (o : Option Heard) → count es ≤ 1 → count (filter (goes_on false) (streaming.finish o es)) ≤ 0
 fewest es o few =
     let less = count_finish o es few in
-    let less_yet = count_filter (goes_on false) (held.finish o es) in
+    let less_yet = count_filter (goes_on false) (streaming.finish o es) in
     omega (arith, less, less_yet)
 
 one_more : (now : Option Start) (h : Happening) (es : List Open) → MayCome now h → count es ≤ length (option_to_list now)
     → count (staying now h es) ≤ length (option_to_list (comes_in now h))
 one_more now (Asked r) es may one =
-    let gone = count_filter (goes_on true) (map (held.asked_again r) es) in
-    omega (arith, one, gone, count_asked r es, count_opened r (filter (goes_on true) (map (held.asked_again r) es)))
+    let gone = count_filter (goes_on true) (map (streaming.asked_again r) es) in
+    omega (arith, one, gone, count_asked r es, count_opened r (filter (goes_on true) (map (streaming.asked_again r) es)))
 one_more now (Began start) es may one =
     let none : count es ≤ 0 = subst (λ (o : Option Start). count es ≤ length (option_to_list o)) may one in
     let more = count_hear start es in

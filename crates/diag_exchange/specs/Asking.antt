@@ -4,7 +4,7 @@ use Rattle.std.specs.List.{find, list_any}
 use Rattle.diag_exchange.specs.declared.happening.Happening.{Happening}
 use Rattle.diag_exchange.specs.declared.happening.Happening.TheVariants.{Asked, Began, Came, Lost}
 use Rattle.diag_exchange.specs.declared.happening.Heard.{Heard}
-use Rattle.diag_exchange.specs.declared.happening.Request.{Request}
+use Rattle.diag_exchange.specs.declared.happening.AskedRequest.{AskedRequest}
 use Rattle.diag_exchange.specs.declared.happening.Start.{Start}
 
 -- ---- messages of the unit
@@ -42,7 +42,7 @@ completes before h = None
 -- ---- requests
 
 -- the service
-abbrev pub first_byte : Request → ℕ
+abbrev pub first_byte : AskedRequest → ℕ
 first_byte request = slice_index request.bytes 0
 
 abbrev pub is_heard : Option (List ℕ) → Bool
@@ -50,11 +50,11 @@ is_heard None = false
 is_heard (Some reply) = not (says_pending reply)
 
 -- the server replies to a loud request, and not with response pending alone; else it is silent
-abbrev pub is_loud : Request → Bool
+abbrev pub is_loud : AskedRequest → Bool
 is_loud request = is_heard request.expected.reply
 
 -- the later request has the first byte of the earlier one, and isn't silent behind a loud one
-abbrev pub replaces : Request → Request → Bool
+abbrev pub replaces : AskedRequest → AskedRequest → Bool
 replaces later earlier = (first_byte later == first_byte earlier) && (is_loud later || not (is_loud earlier))
 
 -- ---- which message fits which request
@@ -77,7 +77,7 @@ abbrev pub is_positive : Start → ℕ → Bool
 is_positive start service = (start.first == service + 0x40) && not (start.first == 0x7F)
 
 -- a positive response to it, a negative one, or one that begins as the server's reply
-abbrev pub fits : Start → Request → Bool
+abbrev pub fits : Start → AskedRequest → Bool
 fits start request = is_positive start (first_byte request)
     || begins_as start (0x7F ∷ first_byte request ∷ [])
     || begins_as_reply start request.expected.reply
@@ -86,11 +86,11 @@ fits start request = is_positive start (first_byte request)
 
 -- a request behind another, and whether that was answered by then
 pub record Behind : Type 0 where
-  pub request : Request
+  pub request : AskedRequest
   pub answered : Bool
 
 pub record Course : Type 0 where
-  pub request : Request
+  pub request : AskedRequest
   -- the messages that answer it, in their order
   pub answers : List Heard
   -- a message is coming in that would answer it
@@ -105,7 +105,7 @@ answer c = find is_final c.answers
 abbrev pub is_answered : Course → Bool
 is_answered c = is_some (answer c)
 
-abbrev pub replaced_by : Request → Behind → Bool
+abbrev pub replaced_by : AskedRequest → Behind → Bool
 replaced_by request b = replaces b.request request
 
 abbrev pub is_replaced : Course → Bool
@@ -126,10 +126,10 @@ change_last p f [] = []
 change_last p f (x ∷ xs) =
     if list_any p xs then x ∷ change_last p f xs else (if p x then f x else x) ∷ xs
 
-abbrev pub asked : Request → Course
+abbrev pub asked : AskedRequest → Course
 asked request = record { request = request; answers = []; hears = false; behind = [] }
 
-abbrev pub and_behind : Request → Course → Course
+abbrev pub and_behind : AskedRequest → Course → Course
 and_behind request c =
     record c { behind = c.behind ++ record { request = request; answered = is_answered c } ∷ [] }
 

@@ -6,10 +6,10 @@ use Rattle.diag_exchange.specs.declared.happening.Happening.{Happening}
 use Rattle.diag_exchange.specs.declared.happening.Heard.{Heard}
 use Rattle.diag_exchange.specs.declared.happening.Over.{Over}
 use Rattle.diag_exchange.specs.declared.happening.Over.TheVariants.{Exchange, Unasked}
-use Rattle.diag_exchange.specs.declared.happening.Request.{Request}
+use Rattle.diag_exchange.specs.declared.happening.AskedRequest.{AskedRequest}
 
 -- a request behind it closes an exchange that was answered by then, and one that it replaces
-abbrev pub closes : Request → Behind → Bool
+abbrev pub closes : AskedRequest → Behind → Bool
 closes request b = b.answered || replaced_by request b
 
 abbrev pub is_closed : Course → Bool

@@ -8,9 +8,9 @@ use Rattle.diag_exchange.specs.declared.happening.Happening.{Happening}
 use Rattle.diag_exchange.specs.declared.happening.Heard.{Heard}
 use Rattle.diag_exchange.specs.declared.happening.Over.{Over}
 use Rattle.diag_exchange.specs.declared.happening.Over.TheVariants.{Exchange}
-use Rattle.diag_exchange.specs.declared.happening.Request.{Request}
+use Rattle.diag_exchange.specs.declared.happening.AskedRequest.{AskedRequest}
 use Rattle.diag_exchange.specs.declared.happening.Start.{Start}
-use Rattle.diag_exchange.specs.declared.held.Open.{Open}
+use Rattle.diag_exchange.specs.declared.open.Open.{Open}
 
 -- what is kept of a request and what became of it
 abbrev pub kept : Course → Open
@@ -45,7 +45,7 @@ abbrev pub may_hear : Bool → Start → Open → Bool
 may_hear true start e = is_loud_candidate start e
 may_hear false start e = is_candidate start e
 
-abbrev pub asked_again : Request → Open → Open
+abbrev pub asked_again : AskedRequest → Open → Open
 asked_again request e = record e { replaced = e.replaced || replaces request e.request }
 
 abbrev pub hearing : Open → Open
@@ -80,7 +80,7 @@ abbrev pub told : Open → Over
 told e = Exchange e.request e.pendings e.answer
 
 -- a request of which nothing was heard
-abbrev pub opened : Request → Open
+abbrev pub opened : AskedRequest → Open
 opened request =
     record { request = request; pendings = 0; answer = None; hears = false; replaced = false }
 

@@ -7,8 +7,8 @@ ghost use Rattle.diag_exchange.specs.Streaming.{asked_again, finish, goes_on, he
 ghost use Rattle.diag_exchange.specs.Streaming.{IsLast};
 ghost use Rattle.diag_exchange.specs.declared.happening.Happening.TheVariants.{Asked, Began, Came, Lost};
 
-use crate::happening::{Heard, Over, Request, Start};
-use crate::held::Open;
+use crate::happening::{AskedRequest, Heard, Over, Start};
+use crate::open::Open;
 use diag_pdu::Message;
 use std::alloc::{AllocError, Global};
 
@@ -44,7 +44,7 @@ fn take_out(live: &mut Vec<Open>, asked: bool, over: &mut Vec<Over>)
 }
 
 /// A request is complete behind each of them.
-fn ask_again(live: &mut Vec<Open>, request: &Request)
+fn ask_again(live: &mut Vec<Open>, request: &AskedRequest)
     ensures items { live.new.items ≡ map (asked_again request.now) live.old.items }
     ensures len { vec_len live.new ≡ vec_len live.old }
     ensures room { vec_capacity live.new ≡ vec_capacity live.old }
@@ -54,7 +54,7 @@ fn ask_again(live: &mut Vec<Open>, request: &Request)
     }
 }
 
-/// The place of the latest candidate for a message that begins so, or of the latest loud one.
+/// The index of the latest candidate for a message that begins so, or of the latest loud one.
 fn latest(live: &[Open], loud: bool, start: &Start) -> Option<usize>
     ensures { IsLast (may_hear loud start.now) live.now result }
 {
@@ -68,7 +68,7 @@ fn latest(live: &[Open], loud: bool, start: &Start) -> Option<usize>
     None
 }
 
-/// The place of the exchange that hears the message that is coming in.
+/// The index of the exchange that hears the message that is coming in.
 fn hearer(live: &[Open]) -> Option<usize>
     ensures { IsLast hears_it live.now result }
 {
@@ -140,7 +140,7 @@ impl Exchanges {
     /// # Errors
     /// `AllocError` where memory is refused, and then nothing has changed.
     #[inline(always)]
-    pub fn ask(&mut self, request: Request, over: &mut Vec<Over>) -> Result<(), AllocError>
+    pub fn ask(&mut self, request: AskedRequest, over: &mut Vec<Over>) -> Result<(), AllocError>
         ensures ok { OnOk result (Took self.old self.new over.old.items over.new.items
             (Asked request)) }
         ensures coming { OnOk result (self.new.coming ≡ self.old.coming) }
@@ -217,8 +217,8 @@ impl Exchanges {
     pub fn left(&self, alloc: Global, over: &mut Vec<Over>) -> Result<(), AllocError>
         ensures { OnOk result (Ended self.now over.old.items over.new.items) }
     {
-        for held in &self.live {
-            over.push(held.tell_copy(alloc)?)?;
+        for open in &self.live {
+            over.push(open.tell_copy(alloc)?)?;
         }
         Ok(())
     }
@@ -232,8 +232,8 @@ impl Exchanges {
         ensures out { OnErr result (over.new.items ≡ over.old.items) }
     {
         over.reserve(self.live.len())?;
-        for held in self.live {
-            over.push_reserved(held.tell());
+        for open in self.live {
+            over.push_reserved(open.tell());
         }
         Ok(())
     }

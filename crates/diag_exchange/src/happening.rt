@@ -8,9 +8,9 @@ use std::alloc::{AllocError, Global};
 
 /// A line of the capture.
 #[derive(Clone, Copy, Drop)]
-pub struct Place {
+pub struct CaptureLine {
     /// Its number, from 1.
-    pub line: u64,
+    pub number: u64,
     /// The bus's time of it, in milliseconds.
     pub moment: u64,
 }
@@ -31,9 +31,9 @@ pub struct Expected {
 
 /// A request, complete.
 #[derive(Drop)]
-pub struct Request {
+pub struct AskedRequest {
     /// The line that completed it.
-    pub at: Place,
+    pub at: CaptureLine,
     /// Whether it came to all units.
     pub functional: bool,
     /// Its bytes.
@@ -46,7 +46,7 @@ pub struct Request {
 #[derive(Clone, Copy, Drop)]
 pub struct Start {
     /// Its line.
-    pub at: Place,
+    pub at: CaptureLine,
     /// The message's first byte.
     pub first: u8,
     /// The byte behind it, where the message has one.
@@ -66,7 +66,7 @@ pub struct Heard {
 #[derive(Drop)]
 pub enum Happening {
     /// A request is complete.
-    Asked(Request),
+    Asked(AskedRequest),
     /// A message of the unit begins.
     Began(Start),
     /// The message that began is complete.
@@ -81,7 +81,7 @@ pub enum Over {
     /// A request, and what the unit sent to it.
     Exchange {
         /// The request.
-        request: Request,
+        request: AskedRequest,
         /// How many times response pending came.
         pendings: u64,
         /// The message that isn't response pending, where there is one.
@@ -125,15 +125,15 @@ impl Expected {
     }
 }
 
-impl Request {
+impl AskedRequest {
     /// The same again.
     ///
     /// # Errors
     /// `AllocError` where memory is refused.
-    pub fn try_copy(&self, alloc: Global) -> Result<Request, AllocError>
+    pub fn try_copy(&self, alloc: Global) -> Result<AskedRequest, AllocError>
         ensures { IfOk result (λ copy. copy ≡ self.now) }
     {
-        Ok(Request {
+        Ok(AskedRequest {
             at: self.at,
             functional: self.functional,
             bytes: Message::of(alloc, self.bytes.bytes())?,
@@ -162,7 +162,7 @@ impl Request {
     }
 
     /// Whether it has the first byte of an earlier request, and isn't silent behind a loud one.
-    pub fn replaces(&self, earlier: &Request) -> bool
+    pub fn replaces(&self, earlier: &AskedRequest) -> bool
         ensures { result ≡ replaces self.now earlier.now }
     {
         self.first_byte() == earlier.first_byte() && (self.is_loud() || !earlier.is_loud())

@@ -4,11 +4,11 @@
 mod agreeing;
 mod exchanges;
 mod happening;
-mod held;
 mod laws;
+mod open;
 mod records;
 
 pub use exchanges::Exchanges;
-pub use happening::{Expected, Happening, Heard, Over, Place, Request, Start};
-pub use held::Open;
+pub use happening::{AskedRequest, CaptureLine, Expected, Happening, Heard, Over, Start};
 pub use laws::{agrees_law, few_law, once_law, over_law};
+pub use open::Open;

@@ -156,9 +156,9 @@ served_lengths : (s : State) (who : ℕ) (service : Option Service) (p : List �
 served_lengths s who None p = λ id. refl
 served_lengths s who (Some service) p = service_lengths s who service p
 
-answered_lengths : (s : State) (who place : ℕ) → SameLengths s (ecu.answered s who place)
-answered_lengths s who place =
-    entered_lengths (record s { answers = answers.rows_moved_on s.answers place }) who (ecu.enter_of (slice_get s.answers place))
+answered_lengths : (s : State) (who index : ℕ) → SameLengths s (ecu.answered s who index)
+answered_lengths s who index =
+    entered_lengths (record s { answers = answers.rows_moved_on s.answers index }) who (ecu.enter_of (slice_get s.answers index))
 
 pub request_lengths : (s : State) (who : ℕ) (p : List ℕ) → SameLengths s (ecu.after_request s who p)
 request_lengths s who p =

@@ -1,7 +1,7 @@
 -- What the server makes of a request, and how a message of the unit is compared with it.
 use Rattle.std.specs.Prelude.{ℕ, ◌==◌, ◌&&◌, Bool, true, false, not, if◌then◌else◌, List, [], ◌∷◌, find, flat_map, length, map, replicate, slice_index, take, Option, Some, None}
 use Rattle.std.specs.List.{list_any}
-use Rattle.diag_pdu.specs.declared.step.Request.{Request as TheRequest}
+use Rattle.diag_pdu.specs.declared.step.Request.{Request}
 use Rattle.diag_setup.specs.declared.raw.RawDid.{RawDid}
 use Rattle.diag_setup.specs.declared.raw.RawLevel.{RawLevel}
 use Rattle.diag_setup.specs.declared.raw.RawPattern.{RawPattern}
@@ -12,8 +12,8 @@ use Rattle.diag_store.specs.Answers.{fits}
 use Rattle.diag_ecu.specs.Respond.{ids, template_for}
 use Rattle.diag_ecu.specs.State.{State}
 use Rattle.diag_exchange.specs.declared.happening.Expected.{Expected}
-use Rattle.diag_exchange.specs.declared.happening.Place.{Place}
-use Rattle.diag_exchange.specs.declared.happening.Request.{Request}
+use Rattle.diag_exchange.specs.declared.happening.CaptureLine.{CaptureLine}
+use Rattle.diag_exchange.specs.declared.happening.AskedRequest.{AskedRequest}
 use Rattle.diag_expect.specs.declared.entered.Entered.{Entered}
 use Rattle.diag_expect.specs.declared.entered.Source.{Source}
 use Rattle.diag_expect.specs.declared.entered.Source.TheVariants.{Model, Row}
@@ -99,7 +99,7 @@ source_of None = Model
 source_of (Some items) = Row (template_marks items)
 
 -- a request with its reply, by the state before it
-abbrev pub entered_of : State → ℕ → TheRequest → Option (List ℕ) → Entered
+abbrev pub entered_of : State → ℕ → Request → Option (List ℕ) → Entered
 entered_of s who request reply = record {
   functional = request.functional;
   bytes = request.message;
@@ -125,7 +125,7 @@ expected_of setup entered = record {
 }
 
 -- the same, complete at a line
-abbrev pub asked_at : RawSetup → Place → Entered → Request
+abbrev pub asked_at : RawSetup → CaptureLine → Entered → AskedRequest
 asked_at setup at entered = record {
   at = at;
   functional = entered.functional;

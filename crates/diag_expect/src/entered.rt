@@ -5,8 +5,8 @@ ghost use Rattle.diag_expect.specs.Expecting.{asked_at, entered_of, marks_of, so
 
 use crate::expecting::{is_ignored, own_marks, template_marks};
 use diag_ecu::Ecu;
-use diag_exchange::{Expected, Place, Request};
-use diag_pdu::{Message, Request as TheRequest};
+use diag_exchange::{AskedRequest, CaptureLine, Expected};
+use diag_pdu::{Message, Request};
 use diag_setup::{Setup, TemplateItem, TesterId};
 use std::alloc::{AllocError, Global};
 
@@ -42,7 +42,7 @@ impl Entered {
         alloc: Global,
         ecu: &Ecu,
         who: TesterId,
-        request: &TheRequest,
+        request: &Request,
         reply: Option<&Message>,
     ) -> Result<Entered, AllocError>
         ensures { IfOk result (λ entered. entered
@@ -68,14 +68,14 @@ impl Entered {
         self,
         alloc: Global,
         setup: &Setup,
-        at: Place,
-    ) -> Result<Request, AllocError>
+        at: CaptureLine,
+    ) -> Result<AskedRequest, AllocError>
         ensures { IfOk result (λ request. request ≡ asked_at setup.now at self) }
     {
         let own = matches!(self.source, Source::Model);
         let ignored = is_ignored(setup, self.bytes.bytes());
         let varies = marks_of(alloc, setup, self.source, &self.bytes, self.reply.as_ref())?;
-        Ok(Request {
+        Ok(AskedRequest {
             at,
             functional: self.functional,
             bytes: self.bytes,

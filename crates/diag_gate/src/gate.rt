@@ -146,12 +146,12 @@ impl Gate {
         ensures some { IfSome result (λ s. Gave host.old host.new who s) }
         ensures none { IfNone result ((was_given host.old who ≡ true) × (host.new ≡ host.old)) }
     {
-        let at = usize::from(who.place());
+        let at = usize::from(who.number());
         if host.given[at] {
             return None;
         }
         let shared = &self.table.shared;
-        let named = u64::from(who.place());
+        let named = u64::from(who.number());
         shared.compare_exchange::<Name>(&mut host.place, 0, named, named);
         let spot = shared.split_seat::<Give>(&mut host.place);
         host.given[at] = true;
@@ -177,7 +177,7 @@ impl Gate {
             can_delay: _,
         } = seat;
         let Place { spot, after_ms: _ } = place;
-        let at = usize::from(who.place());
+        let at = usize::from(who.number());
         let shared = &self.table.shared;
         shared.join_seat::<TakeIn>(&mut host.place, spot);
         shared.load::<Learn>(&mut host.place, 0);

@@ -4,7 +4,7 @@ use Rattle.std.specs.Prelude.{◌||◌}
 use Rattle.std.proofs.lemmas.List.{append-nil}
 use Rattle.std.proofs.lemmas.Bool.Decides.{nat_tests}
 use Rattle.std.specs.Io.KnownBytes.{Consumes, IsAtEnd, Keeps}
-use Rattle.diag_can.specs.Bus.{HasNoFeed}
+use Rattle.diag_can.specs.BusLine.{HasNoFeed}
 use Rattle.diag_interface.specs.Interface.{only_text}
 use Rattle.diag_interface.specs.Only.{rest_of, turned}
 use Rattle.diag_interface.proofs.Texts.{ends, first_line, goes_on, last_line, no_rest, nothing, too_long}

@@ -11,7 +11,7 @@ use Rattle.std.proofs.lemmas.Bool.{false_from_ne_true}
 use Rattle.std.proofs.lemmas.Bool.Decides.{nat_tests}
 use lib.Pointwise.{pointwise}
 use Rattle.memchr.specs.Find.{IsFirstByte}
-use Rattle.diag_can.specs.Bus.{HasNoFeed, bus_line, bus_lines}
+use Rattle.diag_can.specs.BusLine.{HasNoFeed, bus_line, bus_lines}
 use Rattle.diag_can.proofs.BusLines.{bus_lines-first, bus_lines-last}
 use Rattle.diag_can.specs.Log.{is_feed}
 use Rattle.diag_interface.specs.Interface.{interface_of, is_close, is_other, is_stamped, only_line, only_text, time_alone}

@@ -9,11 +9,11 @@ use Rattle.std.proofs.Math.Seq.{drop-append-add, drop-append_seam, take-append_s
 use Rattle.std.proofs.lemmas.Bool.Decides.{nat_tests}
 use Rattle.std.proofs.lemmas.Option.{none-some, same_Some}
 use lib.Pointwise.{pointwise}
-use Rattle.diag_can.specs.Bus.{bus_line}
+use Rattle.diag_can.specs.BusLine.{bus_line}
 use Rattle.diag_can.specs.Line.{is_time, line_says, stamped, stamped_frame, stamped_line, text_frame, tick_count, tick_line}
 use Rattle.diag_can.specs.Log.{without_return}
 use Rattle.diag_can.specs.Stamp.{◌>>=◌, behind_name, digits_of, is_digit, moment_of, stamp_of}
-use Rattle.diag_can.specs.declared.bus.BusLine.TheVariants.{Stamped}
+use Rattle.diag_can.specs.declared.bus_line.BusLine.TheVariants.{Stamped}
 use Rattle.diag_can.specs.declared.fault.LineFault.{LineFault}
 use Rattle.diag_can.specs.declared.frame.Frame.{Frame}
 use Rattle.diag_can.proofs.Runs.{run-passes}

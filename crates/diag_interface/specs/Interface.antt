@@ -2,11 +2,11 @@
 use Rattle.std.specs.Prelude.{◌≡◌, ℕ, ◌==◌, Bool, true, false, not, ◌&&◌, if◌then◌else◌, codes, List, [], ◌++◌, drop, map, Option, None, Result, Ok}
 use Rattle.std.specs.List.{after_first, before_first, join_with_byte, prefix_len, slice_split, take_while}
 use lib.Pointwise.{pointwise}
-use Rattle.diag_can.specs.Bus.{bus_line, bus_lines}
+use Rattle.diag_can.specs.BusLine.{bus_line, bus_lines}
 use Rattle.diag_can.specs.Log.{is_feed}
 use Rattle.diag_can.specs.Stamp.{is_no_space, is_space}
-use Rattle.diag_can.specs.declared.bus.BusLine.{BusLine}
-use Rattle.diag_can.specs.declared.bus.BusLine.TheVariants.{Stamped}
+use Rattle.diag_can.specs.declared.bus_line.BusLine.{BusLine}
+use Rattle.diag_can.specs.declared.bus_line.BusLine.TheVariants.{Stamped}
 use Rattle.diag_can.specs.declared.fault.LineFault.{LineFault}
 use Rattle.diag_can.specs.declared.frame.Frame.{Frame}
 

@@ -1,7 +1,7 @@
 -- What a reader of one interface's frames still has to give.
 use Rattle.std.specs.Prelude.{ℕ, ◌≤◌, Bool, true, false, List, [], ◌∷◌, ◌++◌, length, drop, Option, option_map}
 use Rattle.std.specs.List.{before_first, position_or_len}
-use Rattle.diag_can.specs.Bus.{HasNoFeed}
+use Rattle.diag_can.specs.BusLine.{HasNoFeed}
 use Rattle.diag_can.specs.Log.{is_feed}
 use Rattle.diag_interface.specs.Interface.{only_line, only_text}
 use Rattle.diag_interface.specs.Window.{items}

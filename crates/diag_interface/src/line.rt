@@ -6,7 +6,7 @@ ghost use Rattle.diag_can.specs.Stamp.{is_no_space, is_space};
 ghost use Rattle.diag_interface.specs.Interface.{interface_of, is_close, is_other, is_stamped, only_line, time_alone};
 ghost use Rattle.diag_interface.specs.Only.{turned};
 ghost use Rattle.diag_interface.specs.Window.{items, room, size};
-ghost use Rattle.diag_can.specs.Bus.{bus_line};
+ghost use Rattle.diag_can.specs.BusLine.{bus_line};
 
 use crate::window::Window;
 use diag_can::{BusLine, read_bus_line};

@@ -4,7 +4,7 @@ ghost use Rattle.std.specs.Prelude.{◌≡◌, ◌+◌, ◌<◌, ◌≤◌, ℕ,
 ghost use Rattle.std.specs.Io.{ReadsAtMost};
 ghost use Rattle.std.specs.Io.KnownBytes.{IsAtEnd, Keeps, ReadConsumes};
 ghost use Rattle.memchr.specs.Find.{IsFirstByte};
-ghost use Rattle.diag_can.specs.Bus.{HasNoFeed};
+ghost use Rattle.diag_can.specs.BusLine.{HasNoFeed};
 ghost use Rattle.diag_can.specs.Log.{is_feed};
 ghost use Rattle.diag_interface.specs.Interface.{only_text};
 ghost use Rattle.diag_interface.specs.Window.{items, room, size};

@@ -13,17 +13,17 @@ use Rattle.diag_exchange.specs.Exchanges.{over, over_after, over_with}
 use Rattle.diag_exchange.specs.declared.happening.Happening.{Happening}
 use Rattle.diag_exchange.specs.declared.happening.Happening.TheVariants.{Asked}
 use Rattle.diag_exchange.specs.declared.happening.Over.{Over}
-use Rattle.diag_exchange.specs.declared.happening.Place.{Place}
-use Rattle.diag_exchange.specs.declared.happening.Request.{Request}
+use Rattle.diag_exchange.specs.declared.happening.CaptureLine.{CaptureLine}
+use Rattle.diag_exchange.specs.declared.happening.AskedRequest.{AskedRequest}
 use Rattle.diag_expect.specs.Expecting.{asked_at}
 use Rattle.diag_expect.specs.declared.entered.Entered.{Entered}
 use Rattle.diag_listen.specs.Listening.{Hears, HearsRequest, Listens, all_happen}
 use Rattle.diag_listen.specs.declared.listener.Listener.{Listener}
 use Rattle.diag_listen.proofs.Hearing.{over_append, waits_none}
-use Rattle.diag_judge.specs.Judging.{AreCounts, HearsLine, HearsRequests, JudgesLine, counts_of, differs, frame_events, line_happens, request_happens, requests_happen, told_for}
+use Rattle.diag_judge.specs.Judging.{AreCounts, HearsLine, HearsRequests, JudgesLine, counts_of, differs, frame_events, judged_for, line_happens, request_happens, requests_happen}
 use Rattle.diag_judge.specs.declared.tester.Counts.{Counts}
 use Rattle.diag_judge.specs.declared.tester.Tester.{Tester}
-use Rattle.diag_judge.specs.declared.tester.Told.{Told}
+use Rattle.diag_judge.specs.declared.tester.Judged.{Judged}
 
 -- over these, and those behind them
 pub handed_on : (hs xs ys : List Happening) (out out' out'' : List Over) → out' ≡ out ++ over_after hs xs → out'' ≡ out' ++ over_after (hs ++ xs) ys
@@ -46,26 +46,26 @@ pub next_of : {X : Type 0} (n : ℕ) (all left less : List X) (x : X) → revers
 next_of n all left less x are is = next_at n all (reverse less) x (sym (reverse-append less (x ∷ [])) ∙ (ap reverse (sym is) ∙ are))
 
 -- a line without a frame
-pub nothing_heard : (own : Listener) (out : List Over) (at : Place) → Hears own own out out at []
+pub nothing_heard : (own : Listener) (out : List Over) (at : CaptureLine) → Hears own own out out at []
 nothing_heard own out at E hs l = (
   subst (λ (es : List Event). Listens own es (hs ++ [])) (sym (append-nil E)) (subst (λ (w : List Happening). Listens own E w) (sym (append-nil hs)) l),
   sym (append-nil out),
 )
 
 -- time, requests, and a frame
-pub line_heard : (setup : RawSetup) (at : Place) (old later asked new : Listener) (o1 o2 o3 o4 : List Over) (span : ℕ) (entered : List Entered)
+pub line_heard : (setup : RawSetup) (at : CaptureLine) (old later asked new : Listener) (o1 o2 o3 o4 : List Over) (span : ℕ) (entered : List Entered)
     (frame : Option (List ℕ))
     → Hears old later o1 o2 at (waited span)
     → HearsRequests setup at later asked o2 o3 entered
-    → asked.side ≡ old.side
+    → asked.setup ≡ old.setup
     → Hears asked new o3 o4 at (frame_events frame)
     → HearsLine setup at old new o1 o4 span entered frame
 line_heard setup at old later asked new o1 o2 o3 o4 span entered frame time requests same last E hs l =
     let F = E ++ waited span in
-    let xs = all_happen old.side at E (waited span) in
+    let xs = all_happen old.setup at E (waited span) in
     let ys = requests_happen setup at entered in
-    let zs = all_happen old.side at F (frame_events frame) in
-    let zs' = all_happen asked.side at F (frame_events frame) in
+    let zs = all_happen old.setup at F (frame_events frame) in
+    let zs' = all_happen asked.setup at F (frame_events frame) in
     let one = time E hs l in
     let two = requests F (hs ++ xs) one.0 in
     let three = last F ((hs ++ xs) ++ ys) two.0 in
@@ -81,7 +81,7 @@ line_heard setup at old later asked new o1 o2 o3 o4 span entered frame time requ
     )
 
 -- a request more
-pub request_heard : (setup : RawSetup) (at : Place) (mid new : Listener) (o1 o2 o3 : List Over) (entered : List Entered) (one : Entered) (request : Request)
+pub request_heard : (setup : RawSetup) (at : CaptureLine) (mid new : Listener) (o1 o2 o3 : List Over) (entered : List Entered) (one : Entered) (request : AskedRequest)
     (E : List Event) (hs : List Happening)
     → request ≡ asked_at setup at one
     → HearsRequest mid new o2 o3 request
@@ -123,34 +123,34 @@ counts_one old new os o h count differ compared = same_counts new (counts_of (os
     ∙ sym (list_any-append is_compared os (o ∷ []))))
 
 -- a line to a tester
-pub line_judged : (setup : RawSetup) (at : Place) (who : ℕ) (old new : Tester) (heard : Listener) (told told' : List Told) (os : List Over) (span : ℕ)
+pub line_judged : (setup : RawSetup) (at : CaptureLine) (who : ℕ) (old new : Tester) (heard : Listener) (judged judged' : List Judged) (os : List Over) (span : ℕ)
     (frame : Option (List ℕ))
     → HearsLine setup at old.listener heard [] os span old.entered.items frame
     → new.listener ≡ heard
-    → told' ≡ told ++ map (told_for who) os
+    → judged' ≡ judged ++ map (judged_for who) os
     → ((before : List Over) → AreCounts old.counts before → AreCounts new.counts (before ++ os))
-    → JudgesLine setup at who old new told told' span frame
-line_judged setup at who old new heard told told' os span frame hears same is counts E hs j =
-    let happened = line_happens setup old.listener.side at E span old.entered.items frame in
+    → JudgesLine setup at who old new judged judged' span frame
+line_judged setup at who old new heard judged judged' os span frame hears same is counts E hs j =
+    let happened = line_happens setup old.listener.setup at E span old.entered.items frame in
     let both = hears E hs j.listens in
     let more : over (hs ++ happened) ≡ over hs ++ os = over_append [] hs happened ∙ ap (λ w. over hs ++ w) (sym both.1) in (
       record {
         listens = subst (λ (l : Listener). Listens l ((E ++ waited span) ++ frame_events frame) (hs ++ happened)) (sym same) both.0;
         counts = subst (λ (w : List Over). AreCounts new.counts w) (sym more) (counts (over hs) j.counts);
       },
-      is ∙ ap (λ w. told ++ map (told_for who) w) both.1,
+      is ∙ ap (λ w. judged ++ map (judged_for who) w) both.1,
     )
 
 -- time alone, where no message is coming in
-pub idle_judged : (setup : RawSetup) (at : Place) (who : ℕ) (own : Tester) (told : List Told) (span : ℕ)
+pub idle_judged : (setup : RawSetup) (at : CaptureLine) (who : ℕ) (own : Tester) (judged : List Judged) (span : ℕ)
     → own.listener.exchanges.coming ≡ None
     → own.entered.items ≡ []
-    → JudgesLine setup at who own own told told span None
-idle_judged setup at who own told span none empty =
+    → JudgesLine setup at who own own judged judged span None
+idle_judged setup at who own judged span none empty =
     let requests : HearsRequests setup at own.listener own.listener [] [] own.entered.items =
     subst (λ (es : List Entered). HearsRequests setup at own.listener own.listener [] [] es) (sym empty)
     (λ E hs l. (subst (λ (w : List Happening). Listens own.listener E w) (sym (append-nil hs)) l, refl)) in
-    line_judged setup at who own own own.listener told told [] span None
+    line_judged setup at who own own own.listener judged judged [] span None
     (line_heard setup at own.listener own.listener own.listener own.listener [] [] [] [] span own.entered.items None
     (waits_none own.listener [] at span none) requests refl (nothing_heard own.listener [] at))
-    refl (sym (append-nil told)) (λ before h. subst (λ (w : List Over). AreCounts own.counts w) (sym (append-nil before)) h)
+    refl (sym (append-nil judged)) (λ before h. subst (λ (w : List Over). AreCounts own.counts w) (sym (append-nil before)) h)

@@ -11,21 +11,21 @@ use Rattle.diag_exchange.specs.Exchanges.{left_open, over, over_after, over_at_e
 use Rattle.diag_exchange.specs.declared.happening.Happening.{Happening}
 use Rattle.diag_exchange.specs.declared.happening.Happening.TheVariants.{Asked}
 use Rattle.diag_exchange.specs.declared.happening.Over.{Over}
-use Rattle.diag_exchange.specs.declared.happening.Place.{Place}
+use Rattle.diag_exchange.specs.declared.happening.CaptureLine.{CaptureLine}
 use Rattle.diag_expect.specs.Expecting.{asked_at}
 use Rattle.diag_expect.specs.declared.entered.Entered.{Entered}
 use Rattle.diag_listen.specs.Listening.{Listens, all_happen}
 use Rattle.diag_listen.specs.declared.listener.Listener.{Listener}
 use Rattle.diag_judge.specs.declared.tester.Counts.{Counts}
 use Rattle.diag_judge.specs.declared.tester.Tester.{Tester}
-use Rattle.diag_judge.specs.declared.tester.Told.{Told}
+use Rattle.diag_judge.specs.declared.tester.Judged.{Judged}
 
 abbrev pub differs : Over → Bool
 differs o = not (agrees o)
 
 -- what is over for a tester, and whether it agrees
-abbrev pub told_for : ℕ → Over → Told
-told_for t o = record { who = t; over = o; agrees = agrees o }
+abbrev pub judged_for : ℕ → Over → Judged
+judged_for t o = record { who = t; over = o; agrees = agrees o }
 
 -- how many exchanges they are, how many of them differ, and whether there is a message of the unit to compare
 abbrev pub counts_of : List Over → Counts
@@ -45,49 +45,49 @@ abbrev pub frame_events : Option (List ℕ) → List Event
 frame_events None = []
 frame_events (Some bytes) = Physical bytes ∷ []
 
-abbrev pub request_happens : RawSetup → Place → Entered → Happening
+abbrev pub request_happens : RawSetup → CaptureLine → Entered → Happening
 request_happens setup at entered = Asked (asked_at setup at entered)
 
 -- these are complete with the line
-abbrev pub requests_happen : RawSetup → Place → List Entered → List Happening
+abbrev pub requests_happen : RawSetup → CaptureLine → List Entered → List Happening
 requests_happen setup at entered = map (request_happens setup at) entered
 
 -- what a line is to a tester behind these events: what ends by its time, the requests that it completes, and what its
 -- frame is to a message
-abbrev pub line_happens : RawSetup → LinkSetup → Place → List Event → ℕ → List Entered → Option (List ℕ) → List Happening
-line_happens setup side at E span entered frame =
-    all_happen side at E (waited span)
+abbrev pub line_happens : RawSetup → LinkSetup → CaptureLine → List Event → ℕ → List Entered → Option (List ℕ) → List Happening
+line_happens setup link_setup at E span entered frame =
+    all_happen link_setup at E (waited span)
     ++ requests_happen setup at entered
-    ++ all_happen side at (E ++ waited span) (frame_events frame)
+    ++ all_happen link_setup at (E ++ waited span) (frame_events frame)
 
 -- requests were complete behind all that happened, and what was over with them was handed out
-abbrev pub HearsRequests : RawSetup → Place → Listener → Listener → List Over → List Over → List Entered → Type 0
+abbrev pub HearsRequests : RawSetup → CaptureLine → Listener → Listener → List Over → List Over → List Entered → Type 0
 HearsRequests setup at old new out out' entered = (E : List Event) (hs : List Happening)
     → Listens old E hs
     → Listens new E (hs ++ requests_happen setup at entered)
     × (out' ≡ out ++ over_after hs (requests_happen setup at entered))
 
 -- it heard a line, and what was over with it was handed out
-abbrev pub HearsLine : RawSetup → Place → Listener → Listener → List Over → List Over → ℕ → List Entered → Option (List ℕ) → Type 0
+abbrev pub HearsLine : RawSetup → CaptureLine → Listener → Listener → List Over → List Over → ℕ → List Entered → Option (List ℕ) → Type 0
 HearsLine setup at old new out out' span entered frame = (E : List Event) (hs : List Happening)
     → Listens old E hs
-    → Listens new ((E ++ waited span) ++ frame_events frame) (hs ++ line_happens setup old.side at E span entered frame)
-    × (out' ≡ out ++ over_after hs (line_happens setup old.side at E span entered frame))
+    → Listens new ((E ++ waited span) ++ frame_events frame) (hs ++ line_happens setup old.setup at E span entered frame)
+    × (out' ≡ out ++ over_after hs (line_happens setup old.setup at E span entered frame))
 
--- it took a line, and what was over with it was told
-abbrev pub JudgesLine : RawSetup → Place → ℕ → Tester → Tester → List Told → List Told → ℕ → Option (List ℕ) → Type 0
-JudgesLine setup at who old new told told' span frame = (E : List Event) (hs : List Happening)
+-- it took a line, and what was over with it was judged
+abbrev pub JudgesLine : RawSetup → CaptureLine → ℕ → Tester → Tester → List Judged → List Judged → ℕ → Option (List ℕ) → Type 0
+JudgesLine setup at who old new judged judged' span frame = (E : List Event) (hs : List Happening)
     → Judges old E hs
-    → Judges new ((E ++ waited span) ++ frame_events frame) (hs ++ line_happens setup old.listener.side at E span old.entered.items frame)
-    × (told' ≡ told ++ map (told_for who) (over_after hs (line_happens setup old.listener.side at E span old.entered.items frame)))
+    → Judges new ((E ++ waited span) ++ frame_events frame) (hs ++ line_happens setup old.listener.setup at E span old.entered.items frame)
+    × (judged' ≡ judged ++ map (judged_for who) (over_after hs (line_happens setup old.listener.setup at E span old.entered.items frame)))
 
 -- ---- the end
 
--- the exchanges that weren't over were told
-abbrev pub EndsTold : Tester → ℕ → List Told → List Told → Type 0
-EndsTold own who told told' = (E : List Event) (hs : List Happening)
+-- the exchanges that weren't over were judged
+abbrev pub EndsJudged : Tester → ℕ → List Judged → List Judged → Type 0
+EndsJudged own who judged judged' = (E : List Event) (hs : List Happening)
     → Judges own E hs
-    → told' ≡ told ++ map (told_for who) (left_open hs)
+    → judged' ≡ judged ++ map (judged_for who) (left_open hs)
 
 -- all exchanges were counted
 abbrev pub EndsCounted : Tester → Counts → Type 0

@@ -3,4 +3,4 @@
 
 mod tester;
 
-pub use tester::{Counts, Tester, Told};
+pub use tester::{Counts, Judged, Tester};

@@ -3,10 +3,10 @@
 ghost use Rattle.std.specs.Prelude.{◌≡◌, ◌+◌, true, None, [], ◌∷◌, ◌++◌, List, map, option_copied, OnOk, IfOk};
 ghost use Rattle.diag_exchange.specs.Agreeing.{agrees};
 ghost use Rattle.diag_exchange.specs.declared.happening.Over.{Over as AnOver};
-ghost use Rattle.diag_judge.specs.Judging.{AreCounts, EndsCounted, EndsTold, HearsLine, HearsRequests, Judges, JudgesLine, told_for};
+ghost use Rattle.diag_judge.specs.Judging.{AreCounts, EndsCounted, EndsJudged, HearsLine, HearsRequests, Judges, JudgesLine, judged_for};
 
 use diag_can::FrameBytes;
-use diag_exchange::{Over, Place};
+use diag_exchange::{CaptureLine, Over};
 use diag_expect::Entered;
 use diag_listen::Listener;
 use diag_pdu::LinkSetup;
@@ -15,7 +15,7 @@ use std::alloc::{AllocError, Global};
 
 /// An exchange of a tester that is over.
 #[derive(Drop)]
-pub struct Told {
+pub struct Judged {
     /// The tester.
     pub who: TesterId,
     /// The exchange.
@@ -53,14 +53,14 @@ fn hear_requests(
     listener: &mut Listener,
     alloc: Global,
     setup: &Setup,
-    at: Place,
+    at: CaptureLine,
     entered: &mut Vec<Entered>,
     over: &mut Vec<Over>,
 ) -> Result<(), AllocError>
     ensures heard { OnOk result (HearsRequests setup.now at listener.old listener.new over.old.items over.new.items
         entered.old.items) }
     ensures none { OnOk result (entered.new.items ≡ []) }
-    ensures side { listener.new.side ≡ listener.old.side }
+    ensures link_setup { listener.new.setup ≡ listener.old.setup }
 {
     entered.reverse();
     for _turn in 0..entered.len() {
@@ -80,13 +80,13 @@ fn next(number: u64) -> Result<u64, AllocError>
 
 impl Tester {
     /// A tester that heard nothing, whose frames are read by these settings.
-    pub fn new(alloc: Global, side: LinkSetup) -> Tester
+    pub fn new(alloc: Global, link_setup: LinkSetup) -> Tester
         ensures judges { Judges result [] [] }
         ensures entered { result.entered.items ≡ [] }
-        ensures side { result.listener.side ≡ side }
+        ensures link_setup { result.listener.setup ≡ link_setup }
     {
         Tester {
-            listener: Listener::new(alloc, side),
+            listener: Listener::new(alloc, link_setup),
             entered: Vec::new(alloc),
             over: Vec::new(alloc),
             counts: Counts::new(),
@@ -109,7 +109,7 @@ impl Tester {
     }
 
     /// Takes the end of a line: so many milliseconds, the requests that were entered, and a frame of the unit, where the
-    /// line has one. What is over with it is put behind `told`.
+    /// line has one. What is over with it is put behind `judged`.
     ///
     /// # Errors
     /// `AllocError` where memory is refused; of what was taken nothing is said then.
@@ -119,20 +119,20 @@ impl Tester {
         alloc: Global,
         setup: &Setup,
         who: TesterId,
-        at: Place,
+        at: CaptureLine,
         span: u64,
         frame: Option<&FrameBytes>,
-        told: &mut Vec<Told>,
+        judged: &mut Vec<Judged>,
     ) -> Result<(), AllocError>
-        ensures judges { OnOk result (JudgesLine setup.now at who self.old self.new told.old.items told.new.items span
+        ensures judges { OnOk result (JudgesLine setup.now at who self.old self.new judged.old.items judged.new.items span
             (option_copied frame.entry)) }
         ensures entered { OnOk result (self.new.entered.items ≡ []) }
-        ensures side { self.new.listener.side ≡ self.old.listener.side }
+        ensures link_setup { self.new.listener.setup ≡ self.old.listener.setup }
     {
         if frame.is_none() && self.is_idle() {
             return Ok(());
         }
-        self.take(alloc, setup, who, at, span, frame, told)
+        self.take(alloc, setup, who, at, span, frame, judged)
     }
 
     /// Whether time alone changes nothing: no request was entered, and no message is coming in.
@@ -151,21 +151,21 @@ impl Tester {
         alloc: Global,
         setup: &Setup,
         who: TesterId,
-        at: Place,
+        at: CaptureLine,
         span: u64,
         frame: Option<&FrameBytes>,
-        told: &mut Vec<Told>,
+        judged: &mut Vec<Judged>,
     ) -> Result<(), AllocError>
-        ensures judges { OnOk result (JudgesLine setup.now at who self.old self.new told.old.items told.new.items span
+        ensures judges { OnOk result (JudgesLine setup.now at who self.old self.new judged.old.items judged.new.items span
             (option_copied frame.entry)) }
         ensures entered { OnOk result (self.new.entered.items ≡ []) }
-        ensures side { self.new.listener.side ≡ self.old.listener.side }
+        ensures link_setup { self.new.listener.setup ≡ self.old.listener.setup }
     {
         self.hear(alloc, setup, at, span, frame)?;
         if self.over.is_empty() {
             return Ok(());
         }
-        self.counts.judge(alloc, who, &mut self.over, told)
+        self.counts.judge(alloc, who, &mut self.over, judged)
     }
 
     /// Hears a line, and keeps what is over with it.
@@ -174,14 +174,14 @@ impl Tester {
         &mut self,
         alloc: Global,
         setup: &Setup,
-        at: Place,
+        at: CaptureLine,
         span: u64,
         frame: Option<&FrameBytes>,
     ) -> Result<(), AllocError>
         ensures heard { OnOk result (HearsLine setup.now at self.old.listener self.new.listener [] self.new.over.items
             span self.old.entered.items (option_copied frame.entry)) }
         ensures entered { OnOk result (self.new.entered.items ≡ []) }
-        ensures side { self.new.listener.side ≡ self.old.listener.side }
+        ensures link_setup { self.new.listener.setup ≡ self.old.listener.setup }
         ensures counts { self.new.counts ≡ self.old.counts }
     {
         self.over.clear();
@@ -200,7 +200,7 @@ impl Tester {
         }
     }
 
-    /// Where all was taken, what is counted of all exchanges; those that aren't over are put behind `told`.
+    /// Where all was taken, what is counted of all exchanges; those that aren't over are put behind `judged`.
     ///
     /// # Errors
     /// `AllocError` where memory is refused.
@@ -208,15 +208,15 @@ impl Tester {
         &self,
         alloc: Global,
         who: TesterId,
-        told: &mut Vec<Told>,
+        judged: &mut Vec<Judged>,
     ) -> Result<Counts, AllocError>
-        ensures told { OnOk result (EndsTold self.now who told.old.items told.new.items) }
+        ensures judged { OnOk result (EndsJudged self.now who judged.old.items judged.new.items) }
         ensures counts { IfOk result (EndsCounted self.now) }
     {
         let mut over = Vec::new(alloc);
         self.listener.left(alloc, &mut over)?;
         let mut counts = self.counts;
-        counts.judge(alloc, who, &mut over, told)?;
+        counts.judge(alloc, who, &mut over, judged)?;
         Ok(counts)
     }
 }
@@ -233,26 +233,26 @@ impl Counts {
         }
     }
 
-    /// Counts what is over, and tells it.
+    /// Counts what is over, and judges it.
     fn judge(
         &mut self,
         alloc: Global,
         who: TesterId,
         over: &mut Vec<Over>,
-        told: &mut Vec<Told>,
+        judged: &mut Vec<Judged>,
     ) -> Result<(), AllocError>
-        ensures told { OnOk result
-            (told.new.items ≡ told.old.items ++ map (told_for who) over.old.items) }
+        ensures judged { OnOk result
+            (judged.new.items ≡ judged.old.items ++ map (judged_for who) over.old.items) }
         ensures counts { OnOk result ((before : List AnOver) → AreCounts self.old before
             → AreCounts self.new (before ++ over.old.items)) }
     {
-        told.reserve(over.len())?;
+        judged.reserve(over.len())?;
         over.reverse();
         for _turn in 0..over.len() {
             let one = over.take_last();
             let agrees = one.agrees(alloc)?;
             self.note(&one, agrees)?;
-            told.push_reserved(Told {
+            judged.push_reserved(Judged {
                 who,
                 over: one,
                 agrees,

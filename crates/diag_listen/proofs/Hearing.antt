@@ -8,7 +8,7 @@ use Rattle.diag_can.specs.declared.frame.Event.{Event}
 use Rattle.diag_can.specs.declared.frame.Event.TheVariants.{Physical, Functional, Ticks}
 use Rattle.diag_pdu.specs.Kind.{IsRead, kind, Kind, Single, First, Overflow, Consecutive, FlowControl, Ignored}
 use Rattle.diag_pdu.specs.declared.setup.LinkSetup.{LinkSetup}
-use Rattle.diag_sides.specs.Receiver.{Partial, ask_of, completed_by, one_tick_later, open_after, ticks_later}
+use Rattle.diag_sides.specs.Receiver.{Receiving, ask_of, completed_by, one_tick_later, open_after, ticks_later}
 use Rattle.diag_tp.specs.Gives.{gives}
 use Rattle.diag_tp.specs.Link.{asked_of, unfinished}
 use Rattle.diag_tp.specs.Moments.{history, last_time, now}
@@ -21,7 +21,7 @@ use Rattle.diag_exchange.specs.declared.exchanges.Exchanges.{Exchanges}
 use Rattle.diag_exchange.specs.declared.happening.Happening.{Happening}
 use Rattle.diag_exchange.specs.declared.happening.Happening.TheVariants.{Began, Came, Lost}
 use Rattle.diag_exchange.specs.declared.happening.Over.{Over}
-use Rattle.diag_exchange.specs.declared.happening.Place.{Place}
+use Rattle.diag_exchange.specs.declared.happening.CaptureLine.{CaptureLine}
 use Rattle.diag_listen.specs.Listening.{HasMoved, Hears, Listens, Moves, TookEach, after_ticks, all_happen, began, breaks, came, came_by, frame_happens, is_unfinished, kind_happens, lost_if, part_happens, partial_of, receives, ticks_happen, unit_happens}
 use Rattle.diag_listen.specs.declared.listener.Listener.{Listener}
 
@@ -50,7 +50,7 @@ ticked s past (suc n) =
     unfinished-more s (replicate (suc n) (Ticks 1) ++ past) (Ticks 1) tt
     ∙ (ap (option_and_then (one_tick_later s.n_cr)) (ticked s past n) ∙ twice s.n_cr n (unfinished (now past) (open_at s past)))
   where
-    twice : (n_cr n : ℕ) (o : Option Partial) → option_and_then (one_tick_later n_cr) (option_and_then (ticks_later n_cr (suc n)) o)
+    twice : (n_cr n : ℕ) (o : Option Receiving) → option_and_then (one_tick_later n_cr) (option_and_then (ticks_later n_cr (suc n)) o)
         ≡ option_and_then (ticks_later n_cr (suc (suc n))) o
     twice n_cr n o = grind (arith, nat_tests)
 
@@ -60,7 +60,7 @@ ticks_more s E n =
 
 -- ---- what an event is
 
-broken : (s : LinkSetup) (E : List Event) (e : Event) (o : Option Partial) → partial_of s (E ++ e ∷ []) ≡ o
+broken : (s : LinkSetup) (E : List Event) (e : Event) (o : Option Receiving) → partial_of s (E ++ e ∷ []) ≡ o
     → breaks s E e ≡ (is_some (partial_of s E) && not (is_some o))
 broken s E e o same = ap₂ (λ (a b : Bool). a && not b) (kept s E) (kept s (E ++ e ∷ []) ∙ ap is_some same)
 
@@ -68,7 +68,7 @@ came_so : (o : Option (List ℕ)) (b : Bool) → came (asked_of (ask_of false o)
 came_so None b = refl
 came_so (Some message) b = refl
 
-pub kind_is : (s : LinkSetup) (at : Place) (E : List Event) (bytes : List ℕ) → IsRead s.max_request (kind bytes s.max_request)
+pub kind_is : (s : LinkSetup) (at : CaptureLine) (E : List Event) (bytes : List ℕ) → IsRead s.max_request (kind bytes s.max_request)
     → unit_happens s at E (Physical bytes) ≡ kind_happens (partial_of s E) at (kind bytes s.max_request)
 kind_is s at E bytes read = of_kind (kind bytes s.max_request) refl
   where
@@ -76,15 +76,15 @@ kind_is s at E bytes read = of_kind (kind bytes s.max_request) refl
     of_kind (Single payload) e = ap (λ b. lost_if b ++ began at payload ∷ Came payload ∷ []) (kept s E)
     of_kind (First len head) e = ap (λ b. lost_if b ++ began at head ∷ []) (kept s E)
     of_kind Overflow e = ap lost_if (kept s E)
-    of_kind (Consecutive number part) e =
-        let k = Consecutive number part in
+    of_kind (Consecutive sequence_number part) e =
+        let k = Consecutive sequence_number part in
         let step = gives-more s E (Physical bytes) ∙ ap (λ (k : Kind). asked_of (ask_of false (completed_by (partial_of s E) k))) e in
         let later = frame_more s E bytes read ∙ ap (open_after (partial_of s E)) e in
         ap₂ came step (broken s E (Physical bytes) (open_after (partial_of s E) k) later) ∙ came_so (completed_by (partial_of s E) k) _
-    of_kind (FlowControl status block gap) e = refl
+    of_kind (FlowControl flow_status block_size st_min) e = refl
     of_kind Ignored e = refl
 
-pub ticks_are : (s : LinkSetup) (at : Place) (E : List Event) (n : ℕ)
+pub ticks_are : (s : LinkSetup) (at : CaptureLine) (E : List Event) (n : ℕ)
     → unit_happens s at E (Ticks (suc n)) ≡ ticks_happen s (suc n) (partial_of s E)
 ticks_are s at E n = ap lost_if (broken s E (Ticks (suc n)) (after_ticks s (suc n) (partial_of s E)) (ticks_more s E n))
 
@@ -121,7 +121,7 @@ took_both old mid new out out' out'' xs ys first second hs s =
           ∙ ap (λ w. out ++ w) (sym (over_append hs xs ys)))),
     )
 
-pub has_moved : (old : Exchanges) (new : Listener) (out out' : List Over) (happened wanted : List Happening) (partial : Option Partial)
+pub has_moved : (old : Exchanges) (new : Listener) (out out' : List Over) (happened wanted : List Happening) (partial : Option Receiving)
     → TookEach old new.exchanges out out' happened → happened ≡ wanted → new.receiver.partial ≡ partial
     → is_some new.exchanges.coming ≡ is_some partial → (hs : List Happening) → Stands old hs → HasMoved new hs wanted out out' partial
 has_moved old new out out' happened wanted partial took same is coming hs s =
@@ -135,15 +135,15 @@ has_moved old new out out' happened wanted partial took same is coming hs s =
 -- ---- the listener
 
 -- it heard an event, where what is kept moved so
-pub hears_one : (old new : Listener) (out out' : List Over) (at : Place) (e : Event) (E : List Event) (hs happened : List Happening) (partial : Option Partial)
-    → Listens old E hs → new.side ≡ old.side → Moves old new out out' happened partial → happened ≡ unit_happens old.side at E e
-    → partial ≡ partial_of old.side (E ++ e ∷ [])
-    → Listens new (E ++ e ∷ []) (hs ++ unit_happens old.side at E e) × (out' ≡ out ++ over_after hs (unit_happens old.side at E e))
-hears_one old new out out' at e E hs happened partial l side moves is kept =
+pub hears_one : (old new : Listener) (out out' : List Over) (at : CaptureLine) (e : Event) (E : List Event) (hs happened : List Happening) (partial : Option Receiving)
+    → Listens old E hs → new.setup ≡ old.setup → Moves old new out out' happened partial → happened ≡ unit_happens old.setup at E e
+    → partial ≡ partial_of old.setup (E ++ e ∷ [])
+    → Listens new (E ++ e ∷ []) (hs ++ unit_happens old.setup at E e) × (out' ≡ out ++ over_after hs (unit_happens old.setup at E e))
+hears_one old new out out' at e E hs happened partial l setup moves is kept =
     let m = moves hs l.stands l.coming in (
       record {
         stands = subst (λ w. Stands new.exchanges (hs ++ w)) is m.stands;
-        partial = m.partial ∙ (kept ∙ ap (λ (s : LinkSetup). partial_of s (E ++ e ∷ [])) (sym side));
+        partial = m.partial ∙ (kept ∙ ap (λ (s : LinkSetup). partial_of s (E ++ e ∷ [])) (sym setup));
         coming = m.coming ∙ ap is_some (sym m.partial);
       },
       m.out ∙ ap (λ w. out ++ over_after hs w) is,
@@ -156,16 +156,16 @@ with_nil new out out' E hs xs h =
     let n = sym (append-nil xs) in (subst (λ w. Listens new E (hs ++ w)) n h.0, h.1 ∙ ap (λ w. out ++ over_after hs w) n)
 
 -- it heard a frame of this kind
-pub hears_frame : (old new : Listener) (out out' : List Over) (at : Place) (bytes : List ℕ) (k : Kind) → k ≡ kind bytes old.side.max_request
-    → IsRead old.side.max_request k → new.side ≡ old.side
+pub hears_frame : (old new : Listener) (out out' : List Over) (at : CaptureLine) (bytes : List ℕ) (k : Kind) → k ≡ kind bytes old.setup.max_request
+    → IsRead old.setup.max_request k → new.setup ≡ old.setup
     → Moves old new out out' (kind_happens old.receiver.partial at k) (open_after old.receiver.partial k) → Hears old new out out' at (Physical bytes ∷ [])
-hears_frame old new out out' at bytes k is read side moves E hs l =
-    let s = old.side in
+hears_frame old new out out' at bytes k is read setup moves E hs l =
+    let s = old.setup in
     let whole : IsRead s.max_request (kind bytes s.max_request) = subst (IsRead s.max_request) is read in
-    let happened = ap₂ (λ (o : Option Partial) (k : Kind). kind_happens o at k) l.partial is ∙ sym (kind_is s at E bytes whole) in
+    let happened = ap₂ (λ (o : Option Receiving) (k : Kind). kind_happens o at k) l.partial is ∙ sym (kind_is s at E bytes whole) in
     let kept = ap₂ open_after l.partial is ∙ sym (frame_more s E bytes whole) in
     with_nil new out out' (E ++ Physical bytes ∷ []) hs (unit_happens s at E (Physical bytes))
-    (hears_one old new out out' at (Physical bytes) E hs (kind_happens old.receiver.partial at k) (open_after old.receiver.partial k) l side moves happened kept)
+    (hears_one old new out out' at (Physical bytes) E hs (kind_happens old.receiver.partial at k) (open_after old.receiver.partial k) l setup moves happened kept)
 
 -- ---- time
 
@@ -195,7 +195,7 @@ abbrev rest_of : ℕ → List Event
 rest_of ms = if ms % 60000 == 0 then [] else Ticks (ms % 60000) ∷ []
 
 -- where no message is coming in, time is nothing
-silent : (s : LinkSetup) (at : Place) (E es : List Event) → AreTicks es → partial_of s E ≡ None
+silent : (s : LinkSetup) (at : CaptureLine) (E es : List Event) → AreTicks es → partial_of s E ≡ None
     → (all_happen s at E es ≡ []) × (partial_of s (E ++ es) ≡ None)
 silent s at E [] t none = (refl, ap (partial_of s) (append-nil E) ∙ none)
 silent s at E (Physical bytes ∷ es) t none = elim t.0 [ ]
@@ -213,10 +213,10 @@ silent s at E (Ticks n ∷ es) t none =
     )
 
 -- and it goes by
-goes_by : (own : Listener) (out : List Over) (at : Place) (E es : List Event) (hs : List Happening) → AreTicks es → own.receiver.partial ≡ None
-    → Listens own E hs → Listens own (E ++ es) (hs ++ all_happen own.side at E es) × (out ≡ out ++ over_after hs (all_happen own.side at E es))
+goes_by : (own : Listener) (out : List Over) (at : CaptureLine) (E es : List Event) (hs : List Happening) → AreTicks es → own.receiver.partial ≡ None
+    → Listens own E hs → Listens own (E ++ es) (hs ++ all_happen own.setup at E es) × (out ≡ out ++ over_after hs (all_happen own.setup at E es))
 goes_by own out at E es hs t none l =
-    let q = silent own.side at E es t (sym l.partial ∙ none) in (
+    let q = silent own.setup at E es t (sym l.partial ∙ none) in (
       record {
         stands = subst (λ w. Stands own.exchanges (hs ++ w)) (sym q.0) (subst (λ w. Stands own.exchanges w) (sym (append-nil hs)) l.stands);
         partial = none ∙ sym q.1;
@@ -228,23 +228,23 @@ goes_by own out at E es hs t none l =
 waited_ticks : (ms : ℕ) → AreTicks (waited ms)
 waited_ticks ms = same_ticks (ms / 60000) 60000 (rest_of ms) (omega arith) (rest_ticks (ms % 60000) (ms % 60000 == 0) refl)
 
-pub waits_none : (own : Listener) (out : List Over) (at : Place) (ms : ℕ) → own.exchanges.coming ≡ None → Hears own own out out at (waited ms)
+pub waits_none : (own : Listener) (out : List Over) (at : CaptureLine) (ms : ℕ) → own.exchanges.coming ≡ None → Hears own own out out at (waited ms)
 waits_none own out at ms none E hs l = goes_by own out at E (waited ms) hs (waited_ticks ms) (no_partial own.receiver.partial (sym l.coming ∙ ap is_some none)) l
   where
-    no_partial : (o : Option Partial) → is_some o ≡ false → o ≡ None
+    no_partial : (o : Option Receiving) → is_some o ≡ false → o ≡ None
     no_partial None e = refl
     no_partial (Some p) e = cc
 
 -- ticks, and where they end the message any more
-hears_ticks : (old new : Listener) (out out' : List Over) (at : Place) (m : ℕ) (es : List Event) → AreTicks es
-    → (es ≡ []) ⊎ (after_ticks old.side (suc m) old.receiver.partial ≡ None)
-    → new.side ≡ old.side
-    → Moves old new out out' (ticks_happen old.side (suc m) old.receiver.partial) (after_ticks old.side (suc m) old.receiver.partial)
+hears_ticks : (old new : Listener) (out out' : List Over) (at : CaptureLine) (m : ℕ) (es : List Event) → AreTicks es
+    → (es ≡ []) ⊎ (after_ticks old.setup (suc m) old.receiver.partial ≡ None)
+    → new.setup ≡ old.setup
+    → Moves old new out out' (ticks_happen old.setup (suc m) old.receiver.partial) (after_ticks old.setup (suc m) old.receiver.partial)
     → Hears old new out out' at (Ticks (suc m) ∷ es)
-hears_ticks old new out out' at m es t ends side moves E hs l =
-    let s = old.side in
+hears_ticks old new out out' at m es t ends setup moves E hs l =
+    let s = old.setup in
     let e : Event = Ticks (suc m) in
-    let one = hears_one old new out out' at e E hs (ticks_happen s (suc m) old.receiver.partial) (after_ticks s (suc m) old.receiver.partial) l side moves
+    let one = hears_one old new out out' at e E hs (ticks_happen s (suc m) old.receiver.partial) (after_ticks s (suc m) old.receiver.partial) l setup moves
     (ap (ticks_happen s (suc m)) l.partial ∙ sym (ticks_are s at E m)) (ap (after_ticks s (suc m)) l.partial ∙ sym (ticks_more s E m)) in
     let xs = unit_happens s at E e in
     elim ends [
@@ -252,9 +252,9 @@ hears_ticks old new out out' at m es t ends side moves E hs l =
           (sym none) (with_nil new out out' (E ++ e ∷ []) hs xs one)
       | inr over ↦ (
           let gone : new.receiver.partial ≡ None = (moves hs l.stands l.coming).partial ∙ over in
-          let ys' = all_happen new.side at (E ++ e ∷ []) es in
+          let ys' = all_happen new.setup at (E ++ e ∷ []) es in
           let ys = all_happen s at (E ++ e ∷ []) es in
-          let same : ys' ≡ ys = ap (λ (s : LinkSetup). all_happen s at (E ++ e ∷ []) es) side in
+          let same : ys' ≡ ys = ap (λ (s : LinkSetup). all_happen s at (E ++ e ∷ []) es) setup in
           let rest = goes_by new out' at (E ++ e ∷ []) es (hs ++ xs) t gone one.0 in
           let moved : Listens new ((E ++ e ∷ []) ++ es) ((hs ++ xs) ++ ys) = subst (λ w. Listens new ((E ++ e ∷ []) ++ es) ((hs ++ xs) ++ w)) same rest.0 in (
             subst (λ (F : List Event). Listens new F (hs ++ (xs ++ ys))) (append_assoc E (e ∷ []) es)
@@ -264,14 +264,14 @@ hears_ticks old new out out' at m es t ends side moves E hs l =
           ))
     ]
 
-ends_within : (s : LinkSetup) (o : Option Partial) → s.n_cr ≤ 60000 → after_ticks s 60000 o ≡ None
+ends_within : (s : LinkSetup) (o : Option Receiving) → s.n_cr ≤ 60000 → after_ticks s 60000 o ≡ None
 ends_within s None le = refl
 ends_within s (Some p) le = grind (arith, nat_tests)
 
-pub waits_some : (old new : Listener) (out out' : List Over) (at : Place) (ms count : ℕ) → count ≡ min ms 60000 → 1 ≤ count → old.side.n_cr ≤ 60000
-    → new.side ≡ old.side → Moves old new out out' (ticks_happen old.side count old.receiver.partial) (after_ticks old.side count old.receiver.partial)
+pub waits_some : (old new : Listener) (out out' : List Over) (at : CaptureLine) (ms count : ℕ) → count ≡ min ms 60000 → 1 ≤ count → old.setup.n_cr ≤ 60000
+    → new.setup ≡ old.setup → Moves old new out out' (ticks_happen old.setup count old.receiver.partial) (after_ticks old.setup count old.receiver.partial)
     → Hears old new out out' at (waited ms)
-waits_some old new out out' at ms count is some le side moves = of_count count is some moves
+waits_some old new out out' at ms count is some le setup moves = of_count count is some moves
   where
     short : (m : ℕ) → suc m ≡ min ms 60000 → ms < 60000 → waited ms ≡ Ticks (suc m) ∷ []
     short m e less =
@@ -289,23 +289,23 @@ waits_some old new out out' at ms count is some le side moves = of_count count i
     one_less (suc k) h = (k, refl)
 
     of_count : (count : ℕ) → count ≡ min ms 60000 → 1 ≤ count
-        → Moves old new out out' (ticks_happen old.side count old.receiver.partial) (after_ticks old.side count old.receiver.partial)
+        → Moves old new out out' (ticks_happen old.setup count old.receiver.partial) (after_ticks old.setup count old.receiver.partial)
         → Hears old new out out' at (waited ms)
     of_count zero e h moved = absurd (omega (arith, h))
     of_count (suc m) e h moved = elim (nat_lt ms 60000) as (λ b. nat_lt ms 60000 ≡ b → Hears old new out out' at (waited ms)) [
       | true ↦ λ t. let less : ms < 60000 = grind (arith, nat_tests) in
-          subst (λ (es : List Event). Hears old new out out' at es) (sym (short m e less)) (hears_ticks old new out out' at m [] tt (inl refl) side moved)
+          subst (λ (es : List Event). Hears old new out out' at es) (sym (short m e less)) (hears_ticks old new out out' at m [] tt (inl refl) setup moved)
       | false ↦ λ t.
           let above : 60000 ≤ ms = grind (arith, nat_tests) in
           let all : suc m ≡ 60000 = omega (arith, e, above) in
           let k = one_less (ms / 60000) (omega (arith, above)) in
           let rest : List Event = replicate k.0 (Ticks 60000) ++ rest_of ms in
           let are : AreTicks rest = same_ticks k.0 60000 (rest_of ms) (omega arith) (rest_ticks (ms % 60000) (ms % 60000 == 0) refl) in
-          let over : after_ticks old.side (suc m) old.receiver.partial ≡ None =
-          ap (λ (n : ℕ). after_ticks old.side n old.receiver.partial) all ∙ ends_within old.side old.receiver.partial le in
+          let over : after_ticks old.setup (suc m) old.receiver.partial ≡ None =
+          ap (λ (n : ℕ). after_ticks old.setup n old.receiver.partial) all ∙ ends_within old.setup old.receiver.partial le in
           subst (λ (es : List Event). Hears old new out out' at es)
           (ap (λ (n : ℕ). Ticks n ∷ rest) all ∙ sym (long k.0 k.1))
-          (hears_ticks old new out out' at m rest are (inr over) side moved)
+          (hears_ticks old new out out' at m rest are (inr over) setup moved)
     ] refl
 
 -- ---- results

@@ -5,13 +5,13 @@ ghost use Rattle.diag_can.specs.declared.frame.Event.{Event as AnEvent};
 ghost use Rattle.diag_can.specs.Log.{waited};
 ghost use Rattle.diag_pdu.specs.Kind.{Consecutive, IsRead, says};
 ghost use Rattle.diag_pdu.specs.Cut.{head_size};
-ghost use Rattle.diag_sides.specs.Receiver.{begun_partial, open_after};
+ghost use Rattle.diag_sides.specs.Receiver.{begun_receiving, open_after};
 ghost use Rattle.diag_exchange.specs.Taking.{Ended};
 ghost use Rattle.diag_exchange.specs.declared.happening.Happening.TheVariants.{Began, Came};
 ghost use Rattle.diag_listen.specs.Listening.{Hears, HearsRequest, Listens, Moves, TookEach, after_ticks, began, kind_happens, lost_if, part_happens, ticks_happen};
 
 use diag_can::{FrameBytes, TickCount};
-use diag_exchange::{Exchanges, Over, Place, Request, Start};
+use diag_exchange::{AskedRequest, CaptureLine, Exchanges, Over, Start};
 use diag_pdu::{LinkSetup, Message, Pci};
 use diag_sides::Receiver;
 use std::alloc::{AllocError, Global};
@@ -23,7 +23,7 @@ use std::alloc::{AllocError, Global};
 #[derive(Drop)]
 pub struct Listener {
     /// What frames are read by: the longest message, and N_Cr.
-    pub side: LinkSetup,
+    pub setup: LinkSetup,
     /// The message that is coming in.
     pub receiver: Receiver,
     /// The exchanges that aren't over.
@@ -31,7 +31,7 @@ pub struct Listener {
 }
 
 /// The first frame of a message, which has these bytes of it.
-fn start_of(at: Place, bytes: &[u8]) -> Start
+fn start_of(at: CaptureLine, bytes: &[u8]) -> Start
     requires { 1 ≤ length bytes.now }
     ensures { Began result ≡ began at bytes.now }
 {
@@ -44,12 +44,12 @@ fn start_of(at: Place, bytes: &[u8]) -> Start
 
 impl Listener {
     /// Nothing was heard.
-    pub fn new(alloc: Global, side: LinkSetup) -> Listener
+    pub fn new(alloc: Global, setup: LinkSetup) -> Listener
         ensures listens { Listens result [] [] }
-        ensures side { result.side ≡ side }
+        ensures setup { result.setup ≡ setup }
     {
         Listener {
-            side,
+            setup,
             receiver: Receiver::new(alloc),
             exchanges: Exchanges::new(alloc),
         }
@@ -60,14 +60,14 @@ impl Listener {
     /// # Errors
     /// `AllocError` where memory is refused; of what was heard nothing is said then.
     #[inline(always)]
-    pub fn wait(&mut self, at: Place, ms: u64, over: &mut Vec<Over>) -> Result<(), AllocError>
+    pub fn wait(&mut self, at: CaptureLine, ms: u64, over: &mut Vec<Over>) -> Result<(), AllocError>
         ensures heard { OnOk result
             (Hears self.old self.new over.old.items over.new.items at (waited ms)) }
-        ensures side { self.new.side ≡ self.old.side }
+        ensures setup { self.new.setup ≡ self.old.setup }
     {
-        // (for its contract: the time is that of this place, and N_Cr is within the longest count)
+        // (for its contract: the time is that of this line, and N_Cr is within the longest count)
         let _ = at;
-        let _n_cr = self.side.n_cr.get();
+        let _n_cr = self.setup.n_cr.get();
         if self.exchanges.coming.is_none() {
             return Ok(());
         }
@@ -81,11 +81,11 @@ impl Listener {
     /// Hears so many ticks.
     fn pass(&mut self, count: TickCount, over: &mut Vec<Over>) -> Result<(), AllocError>
         ensures moves { OnOk result (Moves self.old self.new over.old.items over.new.items
-            (ticks_happen self.old.side count self.old.receiver.partial)
-            (after_ticks self.old.side count self.old.receiver.partial)) }
-        ensures side { self.new.side ≡ self.old.side }
+            (ticks_happen self.old.setup count self.old.receiver.partial)
+            (after_ticks self.old.setup count self.old.receiver.partial)) }
+        ensures setup { self.new.setup ≡ self.old.setup }
     {
-        self.receiver.pass(self.side.n_cr.get(), count.get());
+        self.receiver.pass(self.setup.n_cr.get(), count.get());
         if self.is_receiving() {
             return Ok(());
         }
@@ -98,15 +98,19 @@ impl Listener {
     /// As `wait`.
     pub fn take(
         &mut self,
-        at: Place,
+        at: CaptureLine,
         frame: &FrameBytes,
         over: &mut Vec<Over>,
     ) -> Result<(), AllocError>
         ensures heard { OnOk result (Hears self.old self.new over.old.items over.new.items at
             (AnEvent.Physical frame.now ∷ [])) }
-        ensures side { self.new.side ≡ self.old.side }
+        ensures setup { self.new.setup ≡ self.old.setup }
     {
-        self.take_kind(at, Pci::read(frame.as_slice(), self.side.max_request), over)
+        self.take_pci(
+            at,
+            Pci::read(frame.as_slice(), self.setup.max_request),
+            over,
+        )
     }
 
     /// Hears a request of the tester, complete.
@@ -114,10 +118,10 @@ impl Listener {
     /// # Errors
     /// As `wait`.
     #[inline(always)]
-    pub fn ask(&mut self, request: Request, over: &mut Vec<Over>) -> Result<(), AllocError>
+    pub fn ask(&mut self, request: AskedRequest, over: &mut Vec<Over>) -> Result<(), AllocError>
         ensures heard { OnOk result
             (HearsRequest self.old self.new over.old.items over.new.items request) }
-        ensures side { self.new.side ≡ self.old.side }
+        ensures setup { self.new.setup ≡ self.old.setup }
     {
         self.exchanges.ask(request, over)
     }
@@ -133,26 +137,26 @@ impl Listener {
     }
 
     /// Hears a frame of this kind.
-    fn take_kind(
+    fn take_pci(
         &mut self,
-        at: Place,
-        kind: Pci<'_>,
+        at: CaptureLine,
+        pci: Pci<'_>,
         over: &mut Vec<Over>,
     ) -> Result<(), AllocError>
-        requires { IsRead self.old.side.max_request (says kind) }
+        requires { IsRead self.old.setup.max_request (says pci) }
         ensures moves { OnOk result (Moves self.old self.new over.old.items over.new.items
-            (kind_happens self.old.receiver.partial at (says kind.entry))
-            (open_after self.old.receiver.partial (says kind.entry))) }
-        ensures side { self.new.side ≡ self.old.side }
+            (kind_happens self.old.receiver.partial at (says pci.entry))
+            (open_after self.old.receiver.partial (says pci.entry))) }
+        ensures setup { self.new.setup ≡ self.old.setup }
     {
-        match kind {
+        match pci {
             Pci::Single(payload) => self.take_single(at, payload, over),
             Pci::First { len, head } => self.take_first(at, len, head, over),
             Pci::Overflow => self.lose(over),
             Pci::Consecutive {
                 sequence_number,
                 part,
-            } => self.take_part(kind, sequence_number, part, over),
+            } => self.take_part(pci, sequence_number, part, over),
             Pci::FlowControl { .. } | Pci::Ignored => Ok(()),
         }
     }
@@ -160,14 +164,14 @@ impl Listener {
     /// A message of one frame.
     fn take_single(
         &mut self,
-        at: Place,
+        at: CaptureLine,
         payload: &[u8],
         over: &mut Vec<Over>,
     ) -> Result<(), AllocError>
         requires { (1 ≤ length payload.now) × (length payload.now ≤ 7) }
         ensures moves { OnOk result (Moves self.old self.new over.old.items over.new.items
             (lost_if (is_some self.old.receiver.partial) ++ began at payload.now ∷ Came payload.now ∷ []) None) }
-        ensures side { self.new.side ≡ self.old.side }
+        ensures setup { self.new.setup ≡ self.old.setup }
     {
         self.lose(over)?;
         self.exchanges.begin(start_of(at, payload));
@@ -178,7 +182,7 @@ impl Listener {
     /// The first frame of a message of several frames.
     fn take_first(
         &mut self,
-        at: Place,
+        at: CaptureLine,
         len: u16,
         head: &[u8],
         over: &mut Vec<Over>,
@@ -186,8 +190,8 @@ impl Listener {
         requires { (8 ≤ len) × (length head.now ≡ head_size len) }
         ensures moves { OnOk result (Moves self.old self.new over.old.items over.new.items
             (lost_if (is_some self.old.receiver.partial) ++ began at head.now ∷ [])
-            (Some (begun_partial len head.now))) }
-        ensures side { self.new.side ≡ self.old.side }
+            (Some (begun_receiving len head.now))) }
+        ensures setup { self.new.setup ≡ self.old.setup }
     {
         self.lose(over)?;
         self.receiver.reserve(len)?;
@@ -199,20 +203,22 @@ impl Listener {
     /// A ConsecutiveFrame: it completes the message, or goes on with it, or breaks it off.
     fn take_part(
         &mut self,
-        kind: Pci<'_>,
-        number: u8,
+        pci: Pci<'_>,
+        sequence_number: u8,
         part: &[u8],
         over: &mut Vec<Over>,
     ) -> Result<(), AllocError>
-        requires kind { says kind ≡ Consecutive number part.now }
+        requires kind { says pci ≡ Consecutive sequence_number part.now }
         requires few { length part.now ≤ 7 }
         ensures moves { OnOk result (Moves self.old self.new over.old.items over.new.items
-            (part_happens self.old.receiver.partial (Consecutive number part.now))
-            (open_after self.old.receiver.partial (Consecutive number part.now))) }
-        ensures side { self.new.side ≡ self.old.side }
+            (part_happens self.old.receiver.partial (Consecutive sequence_number part.now))
+            (open_after self.old.receiver.partial (Consecutive sequence_number part.now))) }
+        ensures setup { self.new.setup ≡ self.old.setup }
     {
-        let message = self.receiver.complete(kind);
-        let _grant = self.receiver.consecutive(&self.side, number, part);
+        let message = self.receiver.complete(pci);
+        let _grant = self
+            .receiver
+            .consecutive(&self.setup, sequence_number, part);
         match message {
             Some(message) => self.come(message, over),
             None if self.is_receiving() => Ok(()),
@@ -226,7 +232,7 @@ impl Listener {
             over.old.items over.new.items (Came message ∷ [])) }
         ensures coming { OnOk result (self.new.exchanges.coming ≡ None) }
         ensures receiver { self.new.receiver ≡ self.old.receiver }
-        ensures side { self.new.side ≡ self.old.side }
+        ensures setup { self.new.setup ≡ self.old.setup }
     {
         if self.exchanges.coming.is_none() {
             return Ok(());
@@ -240,7 +246,7 @@ impl Listener {
             over.old.items over.new.items (lost_if (is_some self.old.exchanges.coming))) }
         ensures coming { OnOk result (self.new.exchanges.coming ≡ None) }
         ensures partial { self.new.receiver.partial ≡ None }
-        ensures side { self.new.side ≡ self.old.side }
+        ensures setup { self.new.setup ≡ self.old.setup }
     {
         self.receiver.end();
         if self.exchanges.coming.is_none() {

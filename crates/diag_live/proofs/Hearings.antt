@@ -2,8 +2,8 @@
 use Rattle.std.proofs.Common.{◌≡◌, ℕ, ◌+◌, ◌<◌, ◌^◌, nat_lt, true, List, [], ◌∷◌, ◌++◌, length, map, Result, Ok, Err, refl, sym, ap, subst, ◌∙◌, append_assoc, length-append, arith}
 use Rattle.std.proofs.lemmas.List.{append-nil, map-append}
 use Rattle.std.proofs.lemmas.Bool.Decides.{nat_tests}
-use Rattle.diag_can.specs.Bus.{HasNoFeed, begun_line, bus_line, bus_lines, ended_lines}
-use Rattle.diag_can.specs.declared.bus.BusLine.{BusLine}
+use Rattle.diag_can.specs.BusLine.{HasNoFeed, begun_line, bus_line, bus_lines, ended_lines}
+use Rattle.diag_can.specs.declared.bus_line.BusLine.{BusLine}
 use Rattle.diag_can.specs.declared.fault.LineFault.{LineFault}
 use Rattle.diag_can.specs.declared.fault.LineFault.TheVariants.{BadLine}
 use Rattle.diag_can.proofs.BusLines.{begun_line-begun, begun_line-line, bus_lines-begin, bus_lines-first, bus_lines-more, ended_lines-begun, ended_lines-line, no_feed_in_begun}

@@ -9,9 +9,9 @@ use Rattle.std.proofs.lemmas.List.Elements.{All-append, All-drop, filter_map-app
 use Rattle.std.proofs.lemmas.Bool.Decides.{nat_tests}
 use Rattle.diag_can.specs.Log.{is_feed}
 use Rattle.diag_can.specs.Stamp.{is_digit}
-use Rattle.diag_can.specs.declared.bus.BusLine.{BusLine}
-use Rattle.diag_can.specs.declared.bus.BusLine.TheVariants.{Ticks}
-use Rattle.diag_can.specs.Bus.{HasNoFeed, begun_line, bus_line, bus_lines, ended_lines}
+use Rattle.diag_can.specs.declared.bus_line.BusLine.{BusLine}
+use Rattle.diag_can.specs.declared.bus_line.BusLine.TheVariants.{Ticks}
+use Rattle.diag_can.specs.BusLine.{HasNoFeed, begun_line, bus_line, bus_lines, ended_lines}
 use Rattle.diag_can.proofs.BusLines.{begun_line-line, bus_lines-ended, ended_lines-line}
 use Rattle.diag_live.specs.Live.{AreGood, Heard, IsGood, but_for_moment, RecordLaw, Taken, Ticked, capture_line, capture_of, heard_line, is_close, lines_of, null_stamp, record_text, restamped, tick_line, with_feed}
 use Rattle.diag_live.proofs.Restamping.{decimal_digits, restamped_says, tick_says}

@@ -11,9 +11,9 @@ use lib.Pointwise.{pointwise}
 use Rattle.diag_can.specs.Stamp.{behind_name, digits_of, is_digit, stamp_of, ◌>>=◌}
 use Rattle.diag_can.specs.Line.{is_decimal, is_time, line_says, stamped, stamped_frame, stamped_line, text_frame, tick_count, tick_line as tick_said}
 use Rattle.diag_can.specs.Log.{without_return}
-use Rattle.diag_can.specs.Bus.{bus_line}
-use Rattle.diag_can.specs.declared.bus.BusLine.{BusLine}
-use Rattle.diag_can.specs.declared.bus.BusLine.TheVariants.{Ticks}
+use Rattle.diag_can.specs.BusLine.{bus_line}
+use Rattle.diag_can.specs.declared.bus_line.BusLine.{BusLine}
+use Rattle.diag_can.specs.declared.bus_line.BusLine.TheVariants.{Ticks}
 use Rattle.diag_can.specs.declared.fault.LineFault.{LineFault}
 use Rattle.diag_can.specs.declared.fault.LineFault.TheVariants.{BadLine}
 use Rattle.diag_can.specs.declared.frame.Frame.{Frame}

@@ -3,7 +3,7 @@ use Rattle.std.proofs.Common.{◌≡◌, ◌⊎◌, ℕ, ◌+◌, ◌-◌, ◌<�
 use Rattle.std.proofs.lemmas.List.{append-nil}
 use Rattle.std.specs.Io.KnownBytes.{Appends, Consumes, IsAtEnd, Keeps}
 use Rattle.std.proofs.KnownBytes.{Keeps-refl, Appends-kept, Appends-nil, Appends-trans, Consumes-kept, Consumes-nil, Consumes-trans}
-use Rattle.diag_can.specs.Bus.{HasNoFeed, begun_line, bus_lines, ended_lines}
+use Rattle.diag_can.specs.BusLine.{HasNoFeed, begun_line, bus_lines, ended_lines}
 use Rattle.diag_can.proofs.BusLines.{begun_line-line, bus_lines-begun, bus_lines-ended, ended_lines-line}
 use Rattle.diag_setup.specs.Setup.{known_ids}
 use Rattle.diag_setup.specs.declared.raw.RawSetup.{RawSetup}

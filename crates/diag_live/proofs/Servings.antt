@@ -3,7 +3,7 @@ use Rattle.std.proofs.Common.{◌≡◌, ◌⊎◌, ℕ, ◌+◌, ◌-◌, ◌<�
 use Rattle.std.proofs.lemmas.List.{append-nil, length-map, length-take, take-append-drop, take-map}
 use Rattle.std.proofs.lemmas.List.Concat.{flat_map-cons}
 use Rattle.std.proofs.Math.Seq.{drop-append_seam, take-append_seam}
-use Rattle.diag_can.specs.Bus.{begun_line, bus_line, bus_lines, ended_lines}
+use Rattle.diag_can.specs.BusLine.{begun_line, bus_line, bus_lines, ended_lines}
 use Rattle.diag_can.specs.declared.fault.LineFault.{LineFault}
 use Rattle.diag_can.proofs.BusLines.{bus_lines-ended, bus_lines-more}
 use Rattle.diag_setup.specs.declared.raw.RawSetup.{RawSetup}

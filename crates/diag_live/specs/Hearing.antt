@@ -1,6 +1,6 @@
 -- What is kept of the lines that are heard, and how a piece of them goes.
 use Rattle.std.specs.Prelude.{◌≡◌, ◌<◌, ℕ, ◌+◌, ◌^◌, List, [], ◌∷◌, ◌++◌, length, map, Result, Err}
-use Rattle.diag_can.specs.Bus.{begun_line, bus_line, bus_lines, ended_lines}
+use Rattle.diag_can.specs.BusLine.{begun_line, bus_line, bus_lines, ended_lines}
 use Rattle.diag_can.specs.declared.fault.LineFault.{LineFault}
 use Rattle.diag_can.specs.declared.fault.LineFault.TheVariants.{BadLine}
 use Rattle.diag_port.specs.Port.{Grew}

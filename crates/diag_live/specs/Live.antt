@@ -1,9 +1,9 @@
 -- A live run's capture: the lines that were heard, with one and the same stamp, and between them the ticks of the clock.
 use Rattle.std.specs.Prelude.{◌≡◌, ◌≤◌, ℕ, ◌/◌, ◌%◌, ◌==◌, Bool, replicate, codes, decimal, if◌then◌else◌, All, List, [], ◌∷◌, ◌++◌, map, Option, Some, None, Ok}
 use Rattle.std.specs.List.{after_first, filter_map, flat_map}
-use Rattle.diag_can.specs.Bus.{HasNoFeed, bus_line, bus_lines}
-use Rattle.diag_can.specs.declared.bus.BusLine.{BusLine}
-use Rattle.diag_can.specs.declared.bus.BusLine.TheVariants.{Empty, Ticks, Stamped}
+use Rattle.diag_can.specs.BusLine.{HasNoFeed, bus_line, bus_lines}
+use Rattle.diag_can.specs.declared.bus_line.BusLine.{BusLine}
+use Rattle.diag_can.specs.declared.bus_line.BusLine.TheVariants.{Empty, Ticks, Stamped}
 
 -- ---- a line as the capture has it
 

@@ -1,6 +1,6 @@
 -- That the ticks of a live run keep pace with the clock.
 use Rattle.std.specs.Prelude.{◌≡◌, ◌⊎◌, ◌≤◌, ◌^◌, ℕ, ◌+◌, ◌-◌, min, max, Bool, List, [], ◌∷◌, ◌++◌, length, map, drop, Option, Some, None}
-use Rattle.diag_can.specs.Bus.{begun_line, ended_lines}
+use Rattle.diag_can.specs.BusLine.{begun_line, ended_lines}
 use Rattle.diag_setup.specs.declared.raw.RawSetup.{RawSetup}
 use Rattle.diag_bus.specs.Bus.{BusState, TookLines}
 use Rattle.diag_bus.specs.declared.replies.Replies.{Replies}

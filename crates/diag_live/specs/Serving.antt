@@ -1,7 +1,7 @@
 -- What is kept of a live run between two calls of its bench, and how a call goes.
 use Rattle.std.specs.Prelude.{◌≡◌, ◌⊎◌, ◌<◌, ◌≤◌, ◌^◌, ℕ, ◌+◌, ◌-◌, min, max, Bool, true, false, List, [], ◌∷◌, ◌++◌, length, Option, Some}
 use Rattle.std.specs.Io.KnownBytes.{Appends, Consumes, IsAtEnd, Keeps}
-use Rattle.diag_can.specs.Bus.{begun_line, bus_lines, ended_lines}
+use Rattle.diag_can.specs.BusLine.{begun_line, bus_lines, ended_lines}
 use Rattle.diag_setup.specs.Setup.{known_ids}
 use Rattle.diag_setup.specs.declared.raw.RawSetup.{RawSetup}
 use Rattle.diag_bus.specs.declared.replies.Replies.{Replies}

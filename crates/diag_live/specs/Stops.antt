@@ -1,7 +1,7 @@
 -- What a live run hears, writes and records; and what it has where it ends by a fault.
 use Rattle.std.specs.Prelude.{◌≡◌, ◌⊎◌, ℕ, ◌+◌, List, ◌∷◌, ◌++◌, length, Option, Some, None, Ok, Err, IfSome}
 use Rattle.std.specs.Io.KnownBytes.{Appends, Consumes, IsAtEnd, Keeps}
-use Rattle.diag_can.specs.Bus.{bus_lines, ended_lines}
+use Rattle.diag_can.specs.BusLine.{bus_lines, ended_lines}
 use Rattle.diag_can.specs.declared.fault.LineFault.{LineFault}
 use Rattle.diag_can.specs.declared.frame.Event.{Event}
 use Rattle.diag_setup.specs.declared.raw.RawSetup.{RawSetup}

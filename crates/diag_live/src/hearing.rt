@@ -1,7 +1,7 @@
 //! The lines that are heard, piece by piece.
 
 ghost use Rattle.std.specs.Prelude.{◌<◌, ◌↔◌, ◌+◌, ◌^◌, IsTrue, ◌≡◌, ◌≤◌, ◌∷◌, [], ◌++◌, length, vec_len, Err, IfErr, OnOk};
-ghost use Rattle.diag_can.specs.Bus.{HasNoFeed};
+ghost use Rattle.diag_can.specs.BusLine.{HasNoFeed};
 ghost use Rattle.diag_port.specs.Port.{Grew};
 
 use crate::restamp::add_restamped;

@@ -36,9 +36,9 @@ pub kind-consecutive : (pad : Option ℕ) (i max : ℕ) (part : List ℕ) → ki
 unfolding kind
 kind-consecutive pad i max part = grind (arith, nat_tests, filled-cons)
 
-pub kind-flow : (max status block gap : ℕ) → status < 16 → kind (flow_bytes status block gap) max ≡ FlowControl status block gap
+pub kind-flow : (max flow_status block_size st_min : ℕ) → flow_status < 16 → kind (flow_bytes flow_status block_size st_min) max ≡ FlowControl flow_status block_size st_min
 unfolding kind
-kind-flow max status block gap h = grind (arith, nat_tests)
+kind-flow max flow_status block_size st_min h = grind (arith, nat_tests)
 
 pub kind-single : (pad : Option ℕ) (max : ℕ) (P : List ℕ) → 1 ≤ length P → length P ≤ 7 → kind (filled pad (single_bytes P)) max ≡ Single P
 unfolding kind
@@ -94,13 +94,13 @@ pub first_read : (frame head : List ℕ) (len max : ℕ) → frame ≡ first_byt
     → kind frame max ≡ First len head
 first_read frame head len max e h k m l = rw e (kind-first None max len head h k m l)
 
-pub consecutive_read : (frame part : List ℕ) (number max : ℕ) → frame ≡ consecutive_bytes number part → number < 16 → kind frame max ≡ Consecutive number part
-consecutive_read frame part number max e h =
-    let small : number % 16 ≡ number = omega arith in
-    rw e (kind-consecutive None number max part ∙ ap (λ (n : ℕ). Consecutive n part) small)
+pub consecutive_read : (frame part : List ℕ) (sequence_number max : ℕ) → frame ≡ consecutive_bytes sequence_number part → sequence_number < 16 → kind frame max ≡ Consecutive sequence_number part
+consecutive_read frame part sequence_number max e h =
+    let small : sequence_number % 16 ≡ sequence_number = omega arith in
+    rw e (kind-consecutive None sequence_number max part ∙ ap (λ (n : ℕ). Consecutive n part) small)
 
-pub flow_read : (frame : List ℕ) (status block gap max : ℕ) → frame ≡ flow_bytes status block gap → status < 16 → kind frame max ≡ FlowControl status block gap
-flow_read frame status block gap max e h = rw e (kind-flow max status block gap h)
+pub flow_read : (frame : List ℕ) (flow_status block_size st_min max : ℕ) → frame ≡ flow_bytes flow_status block_size st_min → flow_status < 16 → kind frame max ≡ FlowControl flow_status block_size st_min
+flow_read frame flow_status block_size st_min max e h = rw e (kind-flow max flow_status block_size st_min h)
 
 pub cut_single_at : (P : List ℕ) (pad : Option ℕ) (k : ℕ) → length P ≤ 7 → k < frames_of P → slice_get (cut P pad) k ≡ Some (filled pad (single_bytes P))
 cut_single_at P pad k h m = grind (arith, nat_tests, cut-short)

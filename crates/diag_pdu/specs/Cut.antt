@@ -36,7 +36,7 @@ abbrev pub consecutive_bytes : ℕ → List ℕ → List ℕ
 consecutive_bytes i part = (32 + i % 16) ∷ part
 
 abbrev pub flow_bytes : ℕ → ℕ → ℕ → List ℕ
-flow_bytes status block gap = (48 + status) ∷ block ∷ gap ∷ []
+flow_bytes flow_status block_size st_min = (48 + flow_status) ∷ block_size ∷ st_min ∷ []
 
 -- the part of the i-th Consecutive, from 1: 7 bytes after those of the First and of the Consecutives before
 abbrev pub part_of : List ℕ → ℕ → List ℕ

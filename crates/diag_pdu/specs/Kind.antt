@@ -9,8 +9,8 @@ pub data Kind : Type 0 where
   Single : (payload : List ℕ) → Kind
   First : (len : ℕ) → (head : List ℕ) → Kind
   Overflow : Kind
-  Consecutive : (number : ℕ) → (part : List ℕ) → Kind
-  FlowControl : (status block gap : ℕ) → Kind
+  Consecutive : (sequence_number : ℕ) → (part : List ℕ) → Kind
+  FlowControl : (flow_status block_size st_min : ℕ) → Kind
   Ignored : Kind
 
 -- the same, lent from a frame's bytes
@@ -18,8 +18,8 @@ abbrev pub says : Pci → Kind
 says (lent.Single payload) = Single payload.now
 says (lent.First len head) = First len head.now
 says lent.Overflow = Overflow
-says (lent.Consecutive number part) = Consecutive number part.now
-says (lent.FlowControl status block gap) = FlowControl status block gap
+says (lent.Consecutive sequence_number part) = Consecutive sequence_number part.now
+says (lent.FlowControl flow_status block_size st_min) = FlowControl flow_status block_size st_min
 says lent.Ignored = Ignored
 
 -- a Single of n bytes, 1 to 7, which are there
@@ -53,10 +53,10 @@ first_kind len bytes max =
 
 -- a FlowControl has status, block size and separation time
 abbrev pub flow_kind : ℕ → List ℕ → Kind
-flow_kind status bytes =
+flow_kind flow_status bytes =
     if nat_lt (length bytes) 3
     then Ignored
-    else FlowControl status (slice_index bytes 1) (slice_index bytes 2)
+    else FlowControl flow_status (slice_index bytes 1) (slice_index bytes 2)
 
 -- the high nibble of byte 0 decides
 unfoldable pub kind : List ℕ → ℕ → Kind
@@ -76,8 +76,8 @@ abbrev pub single_only : Kind → Kind
 single_only (Single payload) = Single payload
 single_only (First len head) = Ignored
 single_only Overflow = Ignored
-single_only (Consecutive number part) = Ignored
-single_only (FlowControl status block gap) = Ignored
+single_only (Consecutive sequence_number part) = Ignored
+single_only (FlowControl flow_status block_size st_min) = Ignored
 single_only Ignored = Ignored
 
 -- how many bytes of memory a frame needs for its message; a message of one frame needs none
@@ -85,8 +85,8 @@ abbrev pub needed_for : Kind → ℕ
 needed_for (Single payload) = 0
 needed_for (First len head) = len
 needed_for Overflow = 0
-needed_for (Consecutive number part) = 0
-needed_for (FlowControl status block gap) = 0
+needed_for (Consecutive sequence_number part) = 0
+needed_for (FlowControl flow_status block_size st_min) = 0
 needed_for Ignored = 0
 
 -- what is read of a frame of at most 8 bytes
@@ -94,6 +94,6 @@ abbrev pub IsRead : ℕ → Kind → Type 0
 IsRead max (Single payload) = (1 ≤ length payload) × (length payload ≤ 7)
 IsRead max (First len head) = (8 ≤ len) × (len ≤ max) × (length head ≡ head_size len)
 IsRead max Overflow = Unit {0}
-IsRead max (Consecutive number part) = length part ≤ 7
-IsRead max (FlowControl status block gap) = Unit {0}
+IsRead max (Consecutive sequence_number part) = length part ≤ 7
+IsRead max (FlowControl flow_status block_size st_min) = Unit {0}
 IsRead max Ignored = Unit {0}

@@ -52,29 +52,29 @@ fn first_of(len: u16, head: &[u8]) -> FrameBytes
 }
 
 /// A ConsecutiveFrame (9.6.4): the sequence number, 0 to 15, and at most 7 bytes of the message.
-pub fn consecutive_frame(number: u8, part: &[u8]) -> FrameBytes
-    requires nibble { number < 16 }
+pub fn consecutive_frame(sequence_number: u8, part: &[u8]) -> FrameBytes
+    requires nibble { sequence_number < 16 }
     requires few { length part.now ≤ 7 }
-    ensures bytes { result ≡ consecutive_bytes number part.now }
-    ensures read { (max : ℕ) → kind result max ≡ Consecutive number part.now }
+    ensures bytes { result ≡ consecutive_bytes sequence_number part.now }
+    ensures read { (max : ℕ) → kind result max ≡ Consecutive sequence_number part.now }
 {
     let mut frame = FrameBytes::new();
-    frame.push(0x20 + number);
+    frame.push(0x20 + sequence_number);
     frame.append(part);
     frame
 }
 
 /// A FlowControl (9.6.5): the flow status, 0 (continue to send), 1 (wait) or 2 (overflow), block size and STmin.
 #[tactic(auto, using(crate::proofs::CutFrames::flow_read))]
-pub fn flow_frame(status: u8, block: u8, gap: u8) -> FrameBytes
-    requires nibble { status < 16 }
-    ensures bytes { result ≡ flow_bytes status block gap }
-    ensures read { (max : ℕ) → kind result max ≡ FlowControl status block gap }
+pub fn flow_frame(flow_status: u8, block_size: u8, st_min: u8) -> FrameBytes
+    requires nibble { flow_status < 16 }
+    ensures bytes { result ≡ flow_bytes flow_status block_size st_min }
+    ensures read { (max : ℕ) → kind result max ≡ FlowControl flow_status block_size st_min }
 {
-    FrameBytes::made_of(&[0x30 + status, block, gap])
+    FrameBytes::made_of(&[0x30 + flow_status, block_size, st_min])
 }
 
-/// The frame filled to 8 bytes with the pad byte, if any.
+/// The frame padded to 8 bytes with the pad byte, if any.
 #[inline(always)]
 pub fn padded(frame: FrameBytes, pad: Option<u8>) -> FrameBytes
     requires { length frame ≤ 8 }
@@ -86,7 +86,7 @@ pub fn padded(frame: FrameBytes, pad: Option<u8>) -> FrameBytes
     }
 }
 
-/// The frame filled to 8 bytes. (Not inlined, so that its bytes are read from memory as one word, and aren't taken apart.)
+/// The frame padded to 8 bytes. (Not inlined, so that its bytes are read from memory as one word, and aren't taken apart.)
 #[inline(never)]
 fn filled_with(frame: &FrameBytes, byte: u8) -> FrameBytes
     requires { length frame.now ≤ 8 }
@@ -115,21 +115,21 @@ fn nth_consecutive(message: &[u8], i: u16, pad: Option<u8>) -> FrameBytes
     requires fits { length message.now ≤ 65535 }
     ensures { result ≡ filled pad (consecutive_bytes i (part_of message.now i)) }
 {
-    let number = (i % 16) as u8;
+    let sequence_number = (i % 16) as u8;
     let before = usize::from(head_size(message.len() as u16)) + 7 * usize::from(i - 1) - 1;
     if let Some(eight) = message[before.min(message.len())..].first_chunk::<8>() {
         let mut whole = *eight;
-        whole[0] = 0x20 + number;
+        whole[0] = 0x20 + sequence_number;
         FrameBytes::full(whole)
     } else {
         padded(
-            consecutive_frame(number, part(message, usize::from(i))),
+            consecutive_frame(sequence_number, part(message, usize::from(i))),
             pad,
         )
     }
 }
 
-/// The `k`-th frame of the message, from 0, filled to 8 bytes with the pad byte, if any. The message has one.
+/// The `k`-th frame of the message, from 0, padded to 8 bytes with the pad byte, if any. The message has one.
 #[tactic(auto, using(crate::proofs::CutFrames::cut_single_at, crate::proofs::CutFrames::cut_first_at, crate::proofs::CutFrames::cut_part_at))]
 pub fn frame_at(message: &Message, k: u16, pad: Option<u8>) -> FrameBytes
     requires { k < frames_of message.now }
@@ -147,7 +147,7 @@ pub fn frame_at(message: &Message, k: u16, pad: Option<u8>) -> FrameBytes
     }
 }
 
-/// The frame of a message that has a single one, filled as `frame_at` does; None where it has more. Bytes that stand in
+/// The frame of a message that has a single one, padded as `frame_at` does; None where it has more. Bytes that stand in
 /// place are moved together.
 #[tactic(auto, unfolding(crate::specs::Cut::cut))]
 #[inline(always)]
@@ -177,7 +177,7 @@ fn lone_long(message: &Message, pad: Option<u8>) -> Option<FrameBytes>
     }
 }
 
-/// The `k`-th frame of the message, from 0, filled to 8 bytes with the pad byte, if any; None past the last. The first
+/// The `k`-th frame of the message, from 0, padded to 8 bytes with the pad byte, if any; None past the last. The first
 /// is a SingleFrame or a FirstFrame, the others carry 7 bytes each and are numbered 1, 2, .., 15, 0, 1, ..
 #[tactic(auto, using(crate::proofs::CutFrames::frame_past))]
 pub fn frame_of(message: &Message, k: usize, pad: Option<u8>) -> Option<FrameBytes>

@@ -96,15 +96,15 @@ fn escape(bytes: &[u8], max: u16) -> Pci<'_>
 }
 
 #[inline(always)]
-fn flow(status: u8, bytes: &[u8]) -> Pci<'_>
-    ensures kind { says result ≡ flow_kind status bytes.now }
-    ensures read { (max : ℕ) → IsRead max (flow_kind status bytes.now) }
+fn flow(flow_status: u8, bytes: &[u8]) -> Pci<'_>
+    ensures kind { says result ≡ flow_kind flow_status bytes.now }
+    ensures read { (max : ℕ) → IsRead max (flow_kind flow_status bytes.now) }
 {
     if bytes.len() < 3 {
         return Pci::Ignored;
     }
     Pci::FlowControl {
-        flow_status: status,
+        flow_status,
         block_size: bytes[1],
         st_min: bytes[2],
     }

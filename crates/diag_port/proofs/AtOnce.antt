@@ -21,7 +21,7 @@ use Rattle.diag_tp.specs.Wire.{wire}
 use Rattle.diag_desk.specs.Entries.{replies}
 use Rattle.diag_desk.specs.Timed.{Timed, entries_of}
 use Rattle.diag_port.specs.Laws.{AreAtOnce, AtOnceLaw}
-use Rattle.diag_port.specs.Placing.{Mark, late_at, mark_of, marks_after, sid_of}
+use Rattle.diag_port.specs.Releasing.{Mark, late_at, mark_of, marks_after, sid_of}
 use Rattle.diag_port.proofs.LateLemmas.{Goes, asked_more, goes_append, goes_silent}
 use Rattle.diag_port.proofs.PortLemmas.{asked_on, asked_received, goes_received, history_ticks, released_at_once, still_at_once}
 

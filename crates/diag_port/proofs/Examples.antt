@@ -10,7 +10,7 @@ use Rattle.diag_tp.specs.Wire.{Placed}
 use Rattle.diag_desk.specs.Timed.{Timed}
 use Rattle.diag_port.specs.declared.pace.Pace.{Pace}
 use Rattle.diag_port.specs.Late.{pendings}
-use Rattle.diag_port.specs.Placing.{held, placed}
+use Rattle.diag_port.specs.Releasing.{held, placed}
 use Rattle.diag_port.specs.Standing.{timed_asks, timed_ticks}
 
 abbrev settings : LinkSetup

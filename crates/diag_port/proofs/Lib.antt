@@ -2,7 +2,7 @@ pub mod Pendings
 pub mod LateLemmas
 pub mod Within
 pub mod PortLemmas
-pub mod Placing
+pub mod Releasing
 pub mod Standing
 pub mod AtOnce
 pub mod Examples

@@ -13,7 +13,7 @@ use Rattle.diag_tp.specs.State.{LinkState, due}
 use Rattle.diag_sides.specs.declared.sending.Phase.{Phase}
 use Rattle.diag_sides.specs.declared.sending.Phase.TheVariants.{AwaitsFlow, InBlock}
 use Rattle.diag_sides.specs.declared.sending.Sending.{Sending}
-use Rattle.diag_sides.specs.Receiver.{Partial}
+use Rattle.diag_sides.specs.Receiver.{Receiving}
 use Rattle.diag_sides.specs.Sender.{in_phase, kept_as}
 use Rattle.diag_sides.specs.Quiet.{always, current_later, phase_later, reception_later}
 use Rattle.diag_tp.proofs.Silence.{current_none, current_still, due_later, quiet_drained, quiet_left, reception_none, reception_still, same_link, stands_ticks}
@@ -34,7 +34,7 @@ unfolding quiet_later
 later_none link told = same_link _ link refl (omega (arith, told)) (reception_none link.partial) refl (ap (λ o. kept_as o link.sender.waiting) (current_none link.sender.current))
 
 -- ticks after ticks
-reception_more : (n m : ℕ) (o : Option Partial) → reception_later m (reception_later n o) ≡ reception_later (n + m) o
+reception_more : (n m : ℕ) (o : Option Receiving) → reception_later m (reception_later n o) ≡ reception_later (n + m) o
 reception_more n m None = refl
 reception_more n m (Some p) = let e : p.silence + n + m ≡ p.silence + (n + m) = omega arith in rw e refl
 

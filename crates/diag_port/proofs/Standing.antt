@@ -19,10 +19,10 @@ use Rattle.diag_desk.specs.Entries.{asked, entry}
 use Rattle.diag_desk.specs.Timed.{Timed, entries_of}
 use Rattle.diag_port.specs.declared.pace.Pace.{Pace}
 use Rattle.diag_port.specs.Late.{Late, asked_at, laters, placed_late}
-use Rattle.diag_port.specs.Placing.{drawn, lates, sid_of}
+use Rattle.diag_port.specs.Releasing.{drawn, lates, sid_of}
 use Rattle.diag_port.specs.Port.{HandedOut, Passed, PortFor, PortState, Received, time_after}
 use Rattle.diag_port.specs.Standing.{PortStands, PortTook, Went, timed_of, timed_ticks}
-use Rattle.diag_port.proofs.Placing.{lates_push, lates_quiet}
+use Rattle.diag_port.proofs.Releasing.{lates_push, lates_quiet}
 
 steps_after-append : (s : LinkSetup) (p xs ys : List Event) → steps_after s p (xs ++ ys) ≡ steps_after s p xs ++ steps_after s (p ++ xs) ys
 steps_after-append s p [] ys = ap (λ q. steps_after s q ys) (sym (append-nil p))

@@ -6,7 +6,7 @@ use Rattle.diag_tp.specs.Placing as plain
 use Rattle.diag_desk.specs.Entries.{replies}
 use Rattle.diag_desk.specs.Timed.{Timed, entries_of}
 use Rattle.diag_port.specs.declared.pace.Pace.{Pace}
-use Rattle.diag_port.specs.Placing.{drawn, held, placed}
+use Rattle.diag_port.specs.Releasing.{drawn, held, placed}
 
 -- no reply goes later
 abbrev pub AreAtOnce : List Timed → Type 0

@@ -18,7 +18,7 @@ use Rattle.diag_desk.specs.Entries.{asked, asks, entry}
 use Rattle.diag_desk.specs.Timed.{Timed, entries_of}
 use Rattle.diag_port.specs.declared.pace.Pace.{Pace}
 use Rattle.diag_port.specs.declared.port.Port.{Port}
-use Rattle.diag_port.specs.Placing.{drawn, lates}
+use Rattle.diag_port.specs.Releasing.{drawn, lates}
 use Rattle.diag_port.specs.Port.{AreWithin, CanHold, Grew, IsAtRest, IsEarly, PortFor, PortState, time_after}
 
 -- the entry of so many ticks, which have no reply

@@ -21,7 +21,7 @@ ghost use Rattle.diag_pdu.specs.declared.step.Step.{Step as AStep};
 ghost use Rattle.diag_tp.specs.Link.{is_frame, pending};
 ghost use Rattle.diag_tp.specs.Taken.{asked_in};
 ghost use Rattle.diag_port.specs.Fault.{IsFaultBy};
-ghost use Rattle.diag_port.specs.Placing.{sid_of};
+ghost use Rattle.diag_port.specs.Releasing.{sid_of};
 ghost use Rattle.diag_port.specs.Port.{CanHold, Grew, IsAtRest, port_of, unsent_of};
 ghost use Rattle.diag_port.specs.Standing.{GivesStep, IsPrepared, PortTook, RefusedEvent, TookEvent};
 
@@ -66,7 +66,7 @@ pub fn take<T: TakeSteps>(
     let delays = taker.can_delay();
     let taken = prepare(port, event, delays, out)?;
     match taken {
-        Taken::Ignored | Taken::Read(_) => {
+        Taken::Ignored | Taken::Other(_) => {
             take_silent(port, event, taken, out);
             Ok(())
         }

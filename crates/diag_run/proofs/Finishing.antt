@@ -2,7 +2,7 @@
 use Rattle.std.proofs.Common.{◌≡◌, ℕ, ◌+◌, length, map, drop, slice_index_or, List, [], ◌∷◌, ◌++◌, Result, Ok, Err, refl, sym, ap, subst, ◌∙◌, arith, append_assoc, append-nil, length-append}
 use Rattle.std.proofs.lemmas.List.{map-append}
 use Rattle.std.specs.Global.{Vec}
-use Rattle.diag_can.specs.Bus.{HasNoFeed}
+use Rattle.diag_can.specs.BusLine.{HasNoFeed}
 use Rattle.diag_can.specs.HasRead.{HasRead}
 use Rattle.diag_can.specs.Log.{events}
 use Rattle.diag_can.specs.declared.fault.LogFault.{LogFault}

@@ -1,10 +1,10 @@
 -- A capture that is read to its end, or up to a fault.
-use Rattle.std.proofs.Common.{◌≡◌, ℕ, List, [], ◌++◌, Option, Result, inl, refl, sym, ap, subst}
+use Rattle.std.proofs.Common.{◌≡◌, ◌≢◌, ◌⊎◌, ℕ, ◌+◌, ◌<◌, ◌≤◌, List, [], ◌++◌, length, Option, Result, inl, inr, refl, sym, ap, subst, length-append, arith}
 use Rattle.std.specs.Io.KnownBytes.{Appends, Consumes, IsAtEnd, Keeps}
 use Rattle.std.proofs.KnownBytes.{Appends-nil, Appends-trans, Consumes-kept, Consumes-nil, Consumes-trans}
 use Rattle.diag_setup.specs.declared.raw.RawSetup.{RawSetup}
 use Rattle.diag_desk.specs.declared.entry.Entry.{Entry}
-use Rattle.diag_can.specs.Bus.{bus_lines}
+use Rattle.diag_can.specs.BusLine.{bus_lines}
 use Rattle.diag_bus.specs.Bus.{BusState}
 use Rattle.diag_bus.specs.declared.sink.Sink.{Ghosts}
 use Rattle.diag_bus.specs.Events.{events_of, unless_fault}
@@ -16,7 +16,10 @@ use Rattle.diag_run.specs.Files.{SaysSetup}
 use Rattle.diag_run.specs.Wanted.{End, Wanted, wanted}
 use Rattle.diag_run.specs.declared.capture.Capture.{Capture}
 use Rattle.diag_run.specs.declared.capture.CaptureFault.{CaptureFault}
-use Rattle.diag_run.specs.declared.capture.CaptureFault.TheVariants.{Memory, Read}
+use Rattle.diag_run.specs.declared.capture.CaptureFault.TheVariants.{Line, Memory, Otherwise, Read, Write}
+use Rattle.diag_run.specs.Files.{ConfigEnds}
+use Rattle.diag_text.specs.declared.fault.RunFault.{RunFault}
+use Rattle.diag_text.specs.declared.fault.RunFault.TheVariants as run_fault
 use Rattle.diag_run.proofs.Pieces.{GoesOn-trans, halts_within, later_within, read_fails, refused_at, stops_at, stops_at_end}
 
 module _ {S A : Type 0} (g : Ghosts S) (took : S → RawSetup → List (List ℕ) → List Entry → Type 0) (aim : S → A) (written : A → RawSetup → List (List ℕ) → List ℕ)
@@ -34,7 +37,7 @@ module _ {S A : Type 0} (g : Ghosts S) (took : S → RawSetup → List (List ℕ
     pub none : new.text.items ≡ []
 
   module _ (old mid : Capture S g) (r r' r'' w w' w'' : Option (List ℕ)) (so_far : ReadSoFar old mid r r' w w') where
-    pub one_piece_more : (new : Capture S g) (piece : List ℕ) → Consumes r' r'' piece → Sends w' w'' (GoesOn took want_of mid new piece) → new.text.items ≡ []
+    unfoldable pub one_piece_more : (new : Capture S g) (piece : List ℕ) → Consumes r' r'' piece → Sends w' w'' (GoesOn took want_of mid new piece) → new.text.items ≡ []
         → ReadSoFar old new r r'' w w''
     one_piece_more new piece read sends none = record {
       bytes = so_far.bytes ++ piece;
@@ -187,3 +190,41 @@ module _ {S A : Type 0} (g : Ghosts S) (took : S → RawSetup → List (List ℕ
           Consumes-trans r r' r'' piece next.0 read next.1,
           (on.0 ++ sends.0, Appends-trans w w' w'' on.0 sends.0 on.1 sends.1, later_within g took aim written ends begun mid piece next.0 on.0 sends.0 fault on.2 sends.2),
         )
+
+-- ---- why it is given up
+
+-- a read failed, or so many bytes were read, behind a piece that has no more lines than bytes
+pub given_up : {F : Type 0} (n lines : ℕ) (r r' r'' : Option (List ℕ)) (piece : List ℕ) → Consumes r r' piece → lines ≤ length piece
+    → F ⊎ Takes r' r'' (λ bytes. n < lines + length bytes) → F ⊎ Takes r r'' (λ bytes. n < length bytes)
+given_up n lines r r' r'' piece read few (inl failed) = inl failed
+given_up n lines r r' r'' piece read few (inr next) = inr (
+  piece ++ next.0,
+  Consumes-trans r r' r'' piece next.0 read next.1,
+  omega (arith, few, next.2, length-append piece next.0),
+)
+
+-- a fault of a capture is told as a failed read of it, or as a failed writing, only where it is one
+pub read_is : (fault : CaptureFault) (n : ℕ) → fault_of fault ≡ run_fault.Read n → fault ≡ Read
+read_is (Line n f) m is = cc
+read_is Memory m is = cc
+read_is Read m is = refl
+read_is Write m is = cc
+read_is (Otherwise told) m is = cc
+
+pub of_the_capture : (fault : CaptureFault) → fault_of fault ≢ run_fault.Read 0
+of_the_capture (Line n f) is = cc
+of_the_capture Memory is = cc
+of_the_capture Read is = cc
+of_the_capture Write is = cc
+of_the_capture (Otherwise told) is = cc
+
+pub write_is : (fault : CaptureFault) → fault_of fault ≡ run_fault.Write → fault ≡ Write
+write_is (Line n f) is = cc
+write_is Memory is = cc
+write_is Read is = cc
+write_is Write is = refl
+write_is (Otherwise told) is = cc
+
+-- the config's fault is none of the writing
+pub config_writes_not : (old new : Option (List ℕ)) (fault : RunFault) → ConfigEnds old new fault → fault ≢ run_fault.Write
+config_writes_not old new fault ends is = absurd (subst (ConfigEnds old new) is ends)

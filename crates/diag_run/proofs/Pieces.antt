@@ -1,11 +1,11 @@
 -- A capture that comes piece by piece: what is kept of it stands for what was read and written.
-use Rattle.std.proofs.Common.{◌≡◌, ◌≢◌, ◌⊎◌, ℕ, ◌+◌, ◌-◌, ◌<◌, ◌≤◌, nat_lt, true, List, [], ◌∷◌, ◌++◌, length, take, None, Some, Option, Result, Ok, Err, OnOk, IsOk, IfSome, inl, inr, refl, sym, ap, subst, ◌∙◌, append_assoc, arith}
+use Rattle.std.proofs.Common.{◌≡◌, ◌≢◌, ◌⊎◌, ℕ, ◌+◌, ◌-◌, ◌<◌, ◌≤◌, nat_lt, true, List, [], ◌∷◌, ◌++◌, length, take, None, Some, Option, Result, Ok, Err, OnOk, OnErr, IfErr, IsOk, IfSome, inl, inr, refl, sym, ap, subst, ◌∙◌, append_assoc, arith}
 use Rattle.std.proofs.KnownBytes.{Appends-trans}
 use Rattle.std.proofs.lemmas.List.{append-nil, length-append}
 use Rattle.diag_text.specs.Bytes.{Sends}
 use Rattle.std.proofs.lemmas.Bool.Decides.{nat_tests}
 use Rattle.std.proofs.Math.Seq.{take-append_seam}
-use Rattle.diag_can.specs.Bus.{HasNoFeed, begun_line, bus_lines, ended_lines}
+use Rattle.diag_can.specs.BusLine.{HasNoFeed, begun_line, bus_lines, ended_lines}
 use Rattle.diag_can.specs.declared.fault.LineFault.TheVariants.{BadLine}
 use Rattle.diag_can.proofs.BusLines.{begun_line-begun, begun_line-line, bus_lines-begin, bus_lines-begun, bus_lines-ended, bus_lines-first, bus_lines-more, ended_lines-begun, ended_lines-line, no_feed_in_begun}
 use Rattle.diag_setup.specs.declared.raw.RawSetup.{RawSetup}
@@ -38,6 +38,21 @@ IsFrontOf-refl text = ([], sym (append-nil text))
 pub both_on_ok : {T E : Type 0} (P Q : Type 0) (r : Result T E) → OnOk r P → OnOk r Q → OnOk r (P × Q)
 both_on_ok P Q (Ok x) p q = (p, q)
 both_on_ok P Q (Err e) p q = tt
+
+pub ok_is_no_fault : {X E : Type 0} (result : Result X E) (x : X) (fault : E) → result ≡ Ok x → result ≢ Err fault
+ok_is_no_fault {X} {E} result x fault ok is = let clash : (let r : Result X E = Ok x in r) ≡ Err fault = sym ok ∙ is in cc
+
+pub err_same : {X E : Type 0} (a b : E) → (let r : Result X E = Err a in r) ≡ Err b → a ≡ b
+err_same {X} {E} a b is = cc
+
+-- another fault than the one that was answered
+pub other_fault : {X E : Type 0} (result : Result X E) (a b c : E) → result ≡ Err a → a ≡ b → b ≢ c → result ≢ Err c
+other_fault {X} {E} result a b c was same other is = other (sym same ∙ err_same {X = X} {E = E} a c (sym was ∙ is))
+
+-- a fault that is passed on is the one that was answered
+pub same_fault : {X Y E : Type 0} (told : Result X E) (passed : Result Y E) (a b c : E) → told ≡ Err a → passed ≡ Err b → a ≡ b → passed ≡ Err c → told ≡ Err c
+same_fault {X} {Y} {E} told passed a b c was is same other =
+    was ∙ ap (λ (e : E). (let r : Result X E = Err e in r)) (same ∙ err_same {X = Y} {E = E} b c (sym is ∙ other))
 
 module _ {S A : Type 0} (g : Ghosts S) (took : S → RawSetup → List (List ℕ) → List Entry → Type 0) (aim : S → A) (written : A → RawSetup → List (List ℕ) → List ℕ)
     (ends : S → RawSetup → List (List ℕ) → Result End (List ℕ)) where
@@ -202,6 +217,7 @@ module _ {S A : Type 0} (g : Ghosts S) (took : S → RawSetup → List (List ℕ
 
     -- memory was refused for a line that has bytes
     pub memory_halts : (bytes tail : List ℕ) → HasNoFeed bytes → 0 < length bytes → HaltsIn took want_of capture Memory (bytes ++ tail) capture.text.items
+    unfolding cut_here begun_line cut_at
     memory_halts bytes tail none some = λ seen wrote s.
         let line = begun_line seen ++ bytes in
         let plain : HasNoFeed line = subst HasNoFeed (begun_line-begun seen bytes none) (no_feed_in_begun (seen ++ bytes)) in
@@ -221,6 +237,7 @@ module _ {S A : Type 0} (g : Ghosts S) (took : S → RawSetup → List (List ℕ
 
     -- memory was refused for a line that was ended
     pub memory_halts_line : (bytes : List ℕ) → HasNoFeed bytes → HaltsIn took want_of capture Memory (bytes ++ 10 ∷ []) capture.text.items
+    unfolding cut_here begun_line cut_at
     memory_halts_line bytes none = λ seen wrote s.
         let plain : HasNoFeed (begun_line seen ++ bytes) = subst HasNoFeed (begun_line-begun seen bytes none) (no_feed_in_begun (seen ++ bytes)) in
         let text : (rest : List ℕ) → begun_line seen ++ ((bytes ++ 10 ∷ []) ++ rest) ≡ (begun_line seen ++ bytes) ++ 10 ∷ rest =
@@ -473,6 +490,14 @@ module _ {S A : Type 0} (g : Ghosts S) (took : S → RawSetup → List (List ℕ
     end_stops Read h = absurd h
     end_stops Write h = absurd h
 
+    -- it is no failed read or write
+    pub end_own : (fault : CaptureFault) → IsEndFault Ends Well fault → (fault ≢ Read) × (fault ≢ Write)
+    end_own Memory h = (λ is. cc, λ is. cc)
+    end_own (Otherwise told) h = (λ is. cc, λ is. cc)
+    end_own (Line n f) h = absurd h
+    end_own Read h = absurd h
+    end_own Write h = absurd h
+
     pub end_halts : (fault result : CaptureFault) (text sent : List ℕ) → text ≡ capture.text.items → IsEndFault Ends Well fault
         → Answered fault text result sent → HaltsEnded took want_of capture result sent
     end_halts fault result text sent is h (inl same) =
@@ -553,6 +578,7 @@ module _ {S A : Type 0} (g : Ghosts S) (took : S → RawSetup → List (List ℕ
 
   -- memory was refused before a line was taken
   pub refused_at : (want : Wanted) (setup : RawSetup) (seen : List ℕ) (left : Option (List ℕ)) → StopsAt want setup left (fault_of Memory) seen []
+  unfolding cut_at
   refused_at want setup seen left = stops_at want setup seen [] Memory left
       (λ rest. record {
         cut = cut_at want setup [] (bus_lines (seen ++ rest)) (bus_lines (seen ++ rest)) [] refl refl (want.written setup [], refl);
@@ -650,19 +676,26 @@ module _ {S A : Type 0} (g : Ghosts S) (took : S → RawSetup → List (List ℕ
   -- ---- a line that is seen to be at fault
 
   -- the bus looked at it first
-  pub sees_refused : {X : Type 0} (capture : Capture S g) (line : List ℕ) (result : Result X BusFault) → capture.kept.items ≡ []
-      → IsRefused took capture.bus line result → SeesFault took capture line (λ fault. result ≡ Err fault)
-  sees_refused {X} capture line result none refused = λ lines taken. (
-    λ _. refused lines taken,
-    λ long.
-        let whole : 4096 < length line = omega (arith, long, ap length none) in
-        subst (λ (o : Option BusFault). IfSome o (λ fault. result ≡ Err fault)) (long_is_bad capture.bus.setup lines line whole) (refused lines taken),
-  )
+  pub sees_refused : {X : Type 0} (capture : Capture S g) (line : List ℕ) (gave result : Result X BusFault) → gave ≡ result → capture.kept.items ≡ []
+      → IsRefused took capture.bus line gave → SeesFault took capture line (λ fault. result ≡ Err fault)
+  sees_refused {X} capture line gave result same none refused = λ lines taken.
+      let here : IfSome (line_fault capture.bus.setup lines line) (λ fault. result ≡ Err fault) =
+      subst (λ (r : Result X BusFault). IfSome (line_fault capture.bus.setup lines line) (λ fault. r ≡ Err fault)) same (refused lines taken) in (
+        λ _. here,
+        λ long.
+            let whole : 4096 < length line = omega (arith, long, ap length none) in
+            subst (λ (o : Option BusFault). IfSome o (λ fault. result ≡ Err fault)) (long_is_bad capture.bus.setup lines line whole) here,
+      )
 
   -- where a part of it was kept, only how long it is is seen
   pub sees_long : {X : Type 0} (capture : Capture S g) (bytes : List ℕ) (result : Result X BusFault) → 0 < length capture.kept.items
       → (4096 < length capture.kept.items + length bytes → result ≡ Err (bus.Line BadLine)) → SeesFault took capture bytes (λ fault. result ≡ Err fault)
   sees_long {X} capture bytes result some long = λ lines taken. (λ none. absurd (let count = ap length none in omega (arith, count, some)), long)
+
+  -- the bytes were added to it, so it is not too long
+  pub sees_kept : {X : Type 0} (capture : Capture S g) (bytes : List ℕ) (kept result : Result X BusFault) (x : X) → 0 < length capture.kept.items
+      → (4096 < length capture.kept.items + length bytes → kept ≡ Err (bus.Line BadLine)) → kept ≡ Ok x → SeesFault took capture bytes (λ fault. result ≡ Err fault)
+  sees_kept {X} capture bytes kept result x some long ok = sees_long capture bytes result some (λ more. absurd (ok_is_no_fault kept x (bus.Line BadLine) ok (long more)))
 
   pub sees_more : (capture : Capture S g) (bytes : List ℕ) (P Q : BusFault → Type 0) → ((fault : BusFault) → P fault → Q fault)
       → SeesFault took capture bytes P → SeesFault took capture bytes Q
@@ -682,49 +715,61 @@ fault_at_own n bus.Memory = (λ is. cc, λ is. cc)
 fault_at_own n (bus.Line f) = (λ is. cc, λ is. cc)
 fault_at_own n bus.Late = (λ is. cc, λ is. cc)
 
-pub end_fault_own : (P : Result End (List ℕ) → Type 0) (Q : Type 0) (fault : CaptureFault) → IsEndFault P Q fault → (fault ≢ Read) × (fault ≢ Write)
-end_fault_own P Q Memory h = (λ is. cc, λ is. cc)
-end_fault_own P Q (Otherwise told) h = (λ is. cc, λ is. cc)
-end_fault_own P Q (Line n f) h = absurd h
-end_fault_own P Q Read h = absurd h
-end_fault_own P Q Write h = absurd h
-
 -- ---- what the writer is seen to have done
 
-module _ {W X : Type 0} (failed sound : W → Type 0) (old new : W) where
-  err_is : (a b : CaptureFault) → (let r : Result X CaptureFault = Err a in r) ≡ Err b → a ≡ b
-  err_is a b is = cc
+-- the fault of a line is told, unless the writing before it failed
+pub told_stop : {X : Type 0} (n : ℕ) (fault told : BusFault) (at result : CaptureFault) (text sent : List ℕ) → at ≡ fault_at n fault
+    → ((result ≡ at) × (sent ≡ text)) ⊎ ((result ≡ Write) × IsFrontOf sent text) → fault ≡ told → IsTold {X = X} n (Err result) told
+told_stop {X} n fault told at result text sent is (inl same) own =
+    inl (ap (λ (f : CaptureFault). (let r : Result X CaptureFault = Err f in r)) (same.0 ∙ is ∙ ap (fault_at n) own))
+told_stop {X} n fault told at result text sent is (inr failed) own = inr (ap (λ (f : CaptureFault). (let r : Result X CaptureFault = Err f in r)) failed.0)
 
+pub at_own : (n : ℕ) (fault : BusFault) (at : CaptureFault) → at ≡ fault_at n fault → (at ≢ Read) × (at ≢ Write)
+at_own n fault at is = subst (λ (f : CaptureFault). (f ≢ Read) × (f ≢ Write)) (sym is) (fault_at_own n fault)
+
+module _ {W X : Type 0} (failed sound : W → Type 0) (old new : W) where
   -- a fault was answered behind a writing, or that of the writing
   pub writings_stop : (fault result : CaptureFault) (text sent : List ℕ) → (fault ≢ Read) × (fault ≢ Write)
       → ((result ≡ fault) × (sent ≡ text)) ⊎ ((result ≡ Write) × IsFrontOf sent text)
       → (result ≡ Write → fault ≢ Write → failed new) → (result ≢ Write → sound old → sound new)
-      → IsWritings {W} {X} failed sound old new (Err result)
+      → IsWritings {W = W} {X = X} failed sound old new (Err result)
   writings_stop fault result text sent own how fails stays = (
-    λ is. fails (err_is result Write is) own.1,
+    λ is. fails (err_same {X = X} {E = CaptureFault} result Write is) own.1,
     λ other. stays (λ is. other (ap (λ (f : CaptureFault). (let r : Result X CaptureFault = Err f in r)) is)),
-    λ is. read how (err_is result Read is),
+    λ is. read how (err_same {X = X} {E = CaptureFault} result Read is),
   )
     where
       read : ((result ≡ fault) × (sent ≡ text)) ⊎ ((result ≡ Write) × IsFrontOf sent text) → result ≡ Read → ⊥
       read (inl same) is = own.0 (sym same.0 ∙ is)
       read (inr same) is = let clash : Write ≡ Read = sym same.0 ∙ is in cc
 
-  pub writings_failed : (fault : CaptureFault) → fault ≡ Write → failed new → IsWritings {W} {X} failed sound old new (Err fault)
+  pub writings_failed : (fault : CaptureFault) → fault ≡ Write → failed new → IsWritings {W = W} {X = X} failed sound old new (Err fault)
   writings_failed fault is fails = (
     λ _. fails,
     λ other. absurd (other (ap (λ (f : CaptureFault). (let r : Result X CaptureFault = Err f in r)) is)),
-    λ read. let clash : Write ≡ Read = sym is ∙ err_is fault Read read in cc,
+    λ read. let clash : Write ≡ Read = sym is ∙ err_same {X = X} {E = CaptureFault} fault Read read in cc,
   )
 
-  pub writings_ok : (x : X) → (sound old → sound new) → IsWritings {W} {X} failed sound old new (Ok x)
+  pub writings_ok : (x : X) → (sound old → sound new) → IsWritings {W = W} {X = X} failed sound old new (Ok x)
   writings_ok x stays = (λ is. cc, λ _. stays, λ is. cc)
+
+-- what was to be written was written, or it failed
+pub writings_out : {W X : Type 0} (failed sound : W → Type 0) (old new : W) (result : Result X CaptureFault) → OnOk result (sound old → sound new)
+    → OnErr result (failed new) → IfErr result (λ fault. fault ≡ Write) → IsWritings failed sound old new result
+writings_out failed sound old new (Ok x) stays fails is = writings_ok failed sound old new x stays
+writings_out failed sound old new (Err fault) stays fails is = writings_failed failed sound old new fault is fails
+
+-- a fault that is passed on
+pub writings_passed : {W X Y : Type 0} (failed sound : W → Type 0) (old new : W) (told : Result X CaptureFault) (fault : CaptureFault) → told ≡ Err fault
+    → IsWritings failed sound old new told → IsWritings {W = W} {X = Y} failed sound old new (Err fault)
+writings_passed {W} {X} {Y} failed sound old new told fault was writings = (
+  λ is. writings.0 (was ∙ ap (λ (f : CaptureFault). (let r : Result X CaptureFault = Err f in r)) (err_same {X = Y} {E = CaptureFault} fault Write is)),
+  λ other. writings.1 (λ is. other (ap (λ (f : CaptureFault). (let r : Result Y CaptureFault = Err f in r)) (err_same {X = X} {E = CaptureFault} fault Write (sym was ∙ is)))),
+  λ is. writings.2 (was ∙ ap (λ (f : CaptureFault). (let r : Result X CaptureFault = Err f in r)) (err_same {X = Y} {E = CaptureFault} fault Read is)),
+)
 
 -- what was written before stayed sound
 pub writings_behind : {W X : Type 0} (failed sound : W → Type 0) (old mid new : W) (result : Result X CaptureFault) → (sound old → sound mid)
     → IsWritings failed sound mid new result → IsWritings failed sound old new result
 writings_behind {W} {X} failed sound old mid new result before writings =
     (writings.0, λ other was. writings.1 other (before was), writings.2)
-
-pub ok_is_no_fault : {X : Type 0} (result : Result X CaptureFault) (x : X) (fault : CaptureFault) → result ≡ Ok x → result ≢ Err fault
-ok_is_no_fault {X} result x fault ok is = let clash : (let r : Result X CaptureFault = Ok x in r) ≡ Err fault = sym ok ∙ is in cc

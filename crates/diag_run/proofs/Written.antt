@@ -27,19 +27,19 @@ use Rattle.diag_desk.specs.Text.{ended, entry_line, stamped_line, text_of, ticks
 use Rattle.diag_desk.proofs.ReadLemmas.{text_one}
 use Rattle.diag_port.specs.declared.pace.Pace.{Pace}
 use Rattle.diag_port.specs.Late.{pace_of}
-use Rattle.diag_port.specs.Placing.{drawn}
+use Rattle.diag_port.specs.Releasing.{drawn}
 use Rattle.diag_port.specs.Port.{Grew, PortState}
 use Rattle.diag_port.specs.Standing.{HasKept}
 use Rattle.diag_world.specs.Server.{IsEarly, ServerState, ServerTook, ServerView, Serves, Settled, sent_to, server_of}
 use Rattle.diag_world.specs.World.{Stands, WorldState}
 use Rattle.diag_world.proofs.Worlds.{other_place, set_cases}
-use Rattle.diag_bus.specs.Batch.{IsBy}
-use Rattle.diag_bus.proofs.Batches.{clock_told}
+use Rattle.diag_bus.specs.Node.{IsBy}
+use Rattle.diag_bus.proofs.Nodes.{clock_told}
 use Rattle.diag_text.specs.Text.{end_text, journal_part, lines_from, lines_of}
 use Rattle.diag_text.proofs.Lines.{concat_more}
 use Rattle.diag_run.specs.Playing.{AreTexts, AreUnwritten, Enters, EntersMore, EntersOne, IsReady, Plays, Replies, Terms, Took, WroteTo, version_of, parts_text}
 use Rattle.diag_run.specs.Run.{played_text}
-use Rattle.diag_run.specs.declared.entering.JournalLines.{JournalLines}
+use Rattle.diag_run.specs.declared.journal_lines.JournalLines.{JournalLines}
 use Rattle.diag_run.specs.declared.replies.ReplyLines.{ReplyLines}
 use Rattle.diag_run.specs.declared.playing.Playing.{Playing}
 

@@ -1,7 +1,7 @@
 -- What a run of a whole bus's recording reads and writes; and what it has read and written where it ends by a fault.
 use Rattle.std.specs.Prelude.{◌≡◌, ◌≢◌, ◌⊎◌, ℕ, ◌-◌, List, [], ◌++◌, take, Option, Some, None, Result, Ok, Err, IfSome}
 use Rattle.std.specs.Io.KnownBytes.{Appends, Consumes, IsAtEnd, Keeps}
-use Rattle.diag_can.specs.Bus.{bus_lines, ended_lines}
+use Rattle.diag_can.specs.BusLine.{bus_lines, ended_lines}
 use Rattle.diag_can.specs.declared.frame.Event.{Event}
 use Rattle.diag_setup.specs.declared.raw.RawSetup.{RawSetup}
 use Rattle.diag_bus.specs.Events.{bus_events, first_fault}

@@ -1,7 +1,7 @@
 -- What is kept of a capture between two reads, and how a step of it goes.
 use Rattle.std.specs.Prelude.{◌≡◌, ◌≢◌, ◌⊎◌, ◌<◌, ◌+◌, ◌^◌, ◌-◌, ℕ, List, ◌++◌, [], length, None, Option, Result, Err, IfSome}
 use Rattle.std.specs.Io.KnownBytes.{Appends, Consumes, IsAtEnd}
-use Rattle.diag_can.specs.Bus.{begun_line, bus_lines, ended_lines}
+use Rattle.diag_can.specs.BusLine.{begun_line, bus_lines, ended_lines}
 use Rattle.diag_bus.specs.Bus.{TookLines}
 use Rattle.diag_bus.specs.Events.{first_fault, line_fault}
 use Rattle.diag_bus.specs.declared.fault.BusFault.{BusFault}

@@ -10,7 +10,7 @@ use Rattle.diag_text.specs.Bytes.{ReadWhole, Takes}
 use Rattle.diag_text.specs.declared.fault.RunFault.{RunFault}
 use Rattle.diag_text.specs.declared.fault.RunFault.TheVariants.{Files, Config, ConfigLong, Log, JournalLine, FileLong, Memory, JournalFull, RecordsDisagree, Read, Write, Differs, Capture, Otherwise}
 
--- what was read is refused; file 0 is the config, and a tester is its place from 1
+-- what was read is refused; file 0 is the config, and a tester is its number from 1
 pub data Refusal : Type 0 where
   config_long : Refusal
   bad_config : Fault → Refusal

@@ -17,9 +17,9 @@ use Rattle.diag_desk.specs.Entry.{most_entries}
 use Rattle.diag_desk.specs.Text.{text_of, ticks_of}
 use Rattle.diag_world.specs.Server.{EachRun, Served, Serves, sent_to, server_of}
 use Rattle.diag_world.specs.Weaving.{items_of}
-use Rattle.diag_bus.specs.Batch.{IsBy}
+use Rattle.diag_bus.specs.Node.{IsBy}
 use Rattle.diag_text.specs.Text.{end_text, lines_of}
-use Rattle.diag_run.specs.declared.entering.JournalLines.{JournalLines}
+use Rattle.diag_run.specs.declared.journal_lines.JournalLines.{JournalLines}
 use Rattle.diag_run.specs.declared.replies.ReplyLines.{ReplyLines}
 use Rattle.diag_run.specs.declared.playing.Playing.{Playing}
 

@@ -5,7 +5,7 @@ use Rattle.diag_setup.specs.declared.raw.RawSetup.{RawSetup}
 use Rattle.diag_ecu.specs.State.{State}
 use Rattle.diag_desk.specs.declared.entry.Entry.{Entry}
 use Rattle.diag_bus.specs.Text.{ecu_after, text_of}
-use Rattle.diag_bus.specs.Verdict.{Agree, IsPlace, Means, agreement_text, recorded, verdict, verdict_text}
+use Rattle.diag_bus.specs.Verdict.{Agree, IsNumber, Means, agreement_text, recorded, verdict, verdict_text}
 use Rattle.diag_bus.specs.declared.verdict.Verdict.{Verdict}
 use Rattle.diag_bus.specs.declared.verdict.Verdict.TheVariants.{Agrees, Differs, Lacks}
 use Rattle.diag_text.specs.Agreed.{agreed_status, agreed_text, nothing_line}
@@ -83,15 +83,15 @@ judged setup lines = judged_by setup lines (verdict setup lines)
 -- Of some tester the recording has a frame, and the status is 0; or it has none of any, and a last line and the status 9 say so.
 abbrev pub IsAgreed : RawSetup → List (List ℕ) → End → Type 0
 IsAgreed setup lines end =
-    (((t : ℕ) × IsPlace setup t × (recorded setup lines t ≢ [])) × (end ≡ end_with (agreement_text setup lines) 0))
-    ⊎ (((t : ℕ) → IsPlace setup t → recorded setup lines t ≡ [])
+    (((t : ℕ) × IsNumber setup t × (recorded setup lines t ≢ [])) × (end ≡ end_with (agreement_text setup lines) 0))
+    ⊎ (((t : ℕ) → IsNumber setup t → recorded setup lines t ≡ [])
     × (end ≡ end_with (agreement_text setup lines ++ nothing_line) 9))
 
 -- Of each tester the recording has just the frames that the server sends; or of some it has not, and this is told of the first
 -- difference.
 abbrev pub IsJudged : RawSetup → List (List ℕ) → Result End (List ℕ) → Type 0
-IsJudged setup lines (Ok end) = ((t : ℕ) → IsPlace setup t → Agree setup lines t) × IsAgreed setup lines end
-IsJudged setup lines (Err told) = (¬ ((t : ℕ) → IsPlace setup t → Agree setup lines t))
+IsJudged setup lines (Ok end) = ((t : ℕ) → IsNumber setup t → Agree setup lines t) × IsAgreed setup lines end
+IsJudged setup lines (Err told) = (¬ ((t : ℕ) → IsNumber setup t → Agree setup lines t))
     × Means setup lines (verdict setup lines)
     × (told ≡ verdict_text setup (verdict setup lines))
 

@@ -1,7 +1,7 @@
 //! What a run writes for what it has read: the text of a play, or of a replay.
 
 ghost use Rattle.std.specs.Prelude.{◌≡◌, ◌≢◌, ◌++◌, ℕ, List, length, map, IfOk, IfErr, Err};
-ghost use Rattle.diag_can.specs.Bus.{HasNoFeed};
+ghost use Rattle.diag_can.specs.BusLine.{HasNoFeed};
 ghost use Rattle.diag_desk.specs.Following.{HasTaken};
 ghost use Rattle.diag_workers.specs.Play.{logs_of};
 ghost use Rattle.diag_run.specs.Files.{AreTaken, FilesEnd, FilesRead, or_bad_log};

@@ -2,7 +2,7 @@
 
 ghost use Rattle.std.specs.Prelude.{◌≡◌, ◌≢◌, ◌⊎◌, ◌+◌, ◌<◌, ◌≤◌, ◌^◌, ◌∷◌, [], ◌++◌, ℕ, List, length, vec_len, Ok, Err, IsOk, IfOk, IfSome, IfErr, OnErr, OnOk};
 ghost use Rattle.std.specs.Io.KnownBytes.{Appends};
-ghost use Rattle.diag_can.specs.Bus.{HasNoFeed, bus_line, ended_lines};
+ghost use Rattle.diag_can.specs.BusLine.{HasNoFeed, bus_line, ended_lines};
 ghost use Rattle.diag_bus.specs.Bus.{AnswersLine, TookLines};
 ghost use Rattle.diag_text.specs.Bytes.{AppendsFront, Sends};
 ghost use Rattle.diag_world.specs.Block.{some_in_block};

@@ -4,7 +4,7 @@ ghost use Rattle.std.specs.Prelude.{◌≡◌, ◌≤◌, ◌-◌, [], Err, IfOk
 ghost use Rattle.diag_run.specs.Playing.{IsFull, IsPaced, IsReady, Plays, Took, WroteTo, parts_text};
 ghost use Rattle.diag_run.specs.Run.{joined};
 
-use crate::entering::JournalLines;
+use crate::journal_lines::JournalLines;
 use crate::replies::{ReplyLines, add_at, first_lines, texts_of};
 use diag_can::{Event, Timing};
 use diag_desk::StepFault;

@@ -6,13 +6,13 @@ use Rattle.std.proofs.lemmas.List.Elements.{All-cons}
 use Rattle.std.proofs.lemmas.List.Sums.{AllPass-from_list_all}
 use Rattle.diag_setup.specs.declared.raw.RawSetup.{RawSetup}
 use Rattle.diag_setup.specs.declared.raw.RawTester.{RawTester}
-use Rattle.diag_setup.specs.declared.raw.RawCode.{RawCode}
+use Rattle.diag_setup.specs.declared.raw.RawDtc.{RawDtc}
 use Rattle.diag_setup.specs.declared.raw.RawKeyRow.{RawKeyRow}
 use Rattle.diag_setup.specs.declared.raw.RawLevel.{RawLevel}
 use Rattle.diag_setup.specs.declared.raw.TemplateItem.{TemplateItem}
 use Rattle.diag_setup.specs.Rows.{is_between, has_length, has_key, have_one_length, is_rising}
-use Rattle.diag_setup.specs.Setup.{level_sub, seed_of, key_of, is_name_byte, is_can_id, is_id_by, is_own_id, functional_number, is_st_min, faults, is_in_range, times_are_in_range, link_is_in_range, server_is_in_range, testers_are_in_range, dids_are_in_range, codes_are_in_range, routines_are_in_range, levels_are_in_range, tester_is_in_range, did_is_in_range, code_is_in_range, routine_is_in_range, on_done_is_in_range, key_row_is_in_range, level_is_in_range, has_no_rows, is_known_level, did_levels_are_known, routine_level_is_known, IsSetup, did_id, dtc_code, routine_id, answers_are_in_range, answer_is_in_range, reply_is_in_range, enter_is_in_range, template_is_in_range, item_is_in_range, items_or_none, template_count, is_in_time, latest_answer_ms, answer_level_is_known, ignored_are_in_range}
-use Rattle.diag_setup.specs.Fits.{IdFits, TesterFits, DidFits, CodeFits, OnDoneFits, RoutineFits, KeyRowFits, LevelFits, AnswerFits, NumbersFit}
+use Rattle.diag_setup.specs.Setup.{level_sub, seed_of, key_of, is_name_byte, is_can_id, is_id_by, is_own_id, functional_number, is_st_min, faults, is_in_range, times_are_in_range, link_is_in_range, server_is_in_range, testers_are_in_range, dids_are_in_range, dtcs_are_in_range, routines_are_in_range, levels_are_in_range, tester_is_in_range, did_is_in_range, dtc_is_in_range, routine_is_in_range, on_done_is_in_range, key_row_is_in_range, level_is_in_range, has_no_rows, is_known_level, did_levels_are_known, routine_level_is_known, IsSetup, did_id, dtc_code, routine_id, answers_are_in_range, answer_is_in_range, reply_is_in_range, enter_is_in_range, template_is_in_range, item_is_in_range, items_or_none, template_count, is_in_time, latest_answer_ms, answer_level_is_known, ignored_are_in_range}
+use Rattle.diag_setup.specs.Fits.{IdFits, TesterFits, DidFits, DtcFits, OnDoneFits, RoutineFits, KeyRowFits, LevelFits, AnswerFits, NumbersFit}
 use Rattle.diag_setup.proofs.SetupLemmas.{NoneHold, none_hold}
 
 and3 : (a b c : Bool) → (a && b && c) ≡ true → (a ≡ true) × (b ≡ true) × (c ≡ true)
@@ -75,7 +75,7 @@ st_min-fits st h =
 
 abbrev Parts : RawSetup → Type 0
 Parts raw = (times_are_in_range raw ≡ true) × (link_is_in_range raw ≡ true) × (server_is_in_range raw ≡ true)
-    × (testers_are_in_range raw.testers ≡ true) × (dids_are_in_range raw.dids ≡ true) × (codes_are_in_range raw.dtcs ≡ true)
+    × (testers_are_in_range raw.testers ≡ true) × (dids_are_in_range raw.dids ≡ true) × (dtcs_are_in_range raw.dtcs ≡ true)
     × (routines_are_in_range raw.routines ≡ true) × (levels_are_in_range raw.levels ≡ true) × (answers_are_in_range raw ≡ true)
     × (ignored_are_in_range raw.ignore ≡ true)
 
@@ -83,7 +83,7 @@ Parts raw = (times_are_in_range raw ≡ true) × (link_is_in_range raw ≡ true)
 ranged_parts : (raw : RawSetup) → is_in_range raw ≡ true → Parts raw
 ranged_parts raw h =
     and10 (times_are_in_range raw) (link_is_in_range raw) (server_is_in_range raw) (testers_are_in_range raw.testers) (dids_are_in_range raw.dids)
-    (codes_are_in_range raw.dtcs) (routines_are_in_range raw.routines) (levels_are_in_range raw.levels) (answers_are_in_range raw) (ignored_are_in_range raw.ignore) h
+    (dtcs_are_in_range raw.dtcs) (routines_are_in_range raw.routines) (levels_are_in_range raw.levels) (answers_are_in_range raw) (ignored_are_in_range raw.ignore) h
 
 parts_of : (raw : RawSetup) → IsSetup raw → Parts raw
 parts_of raw h =
@@ -130,8 +130,8 @@ testers_few raw h = few_rows tester_is_in_range 8 raw.testers (parts_of raw h).3
 pub dids_few : (raw : RawSetup) → IsSetup raw → length raw.dids ≤ 1024
 dids_few raw h = few_rows did_is_in_range 1024 raw.dids (parts_of raw h).4
 
-pub codes_few : (raw : RawSetup) → IsSetup raw → length raw.dtcs ≤ 4096
-codes_few raw h = few_rows code_is_in_range 4096 raw.dtcs (parts_of raw h).5
+pub dtcs_few : (raw : RawSetup) → IsSetup raw → length raw.dtcs ≤ 4096
+dtcs_few raw h = few_rows dtc_is_in_range 4096 raw.dtcs (parts_of raw h).5
 
 pub routines_few : (raw : RawSetup) → IsSetup raw → length raw.routines ≤ 256
 routines_few raw h = few_rows routine_is_in_range 256 raw.routines (parts_of raw h).6
@@ -177,13 +177,13 @@ ranged_functional raw h =
     (is_can_id raw.functional) (ranged_parts raw h).1 in
     leb-true raw.functional 0x7FF link.4
 
-code-fits : (row : RawCode) → code_is_in_range row ≡ true → CodeFits row
-code-fits row h =
+dtc-fits : (row : RawDtc) → dtc_is_in_range row ≡ true → DtcFits row
+dtc-fits row h =
     let parts = and_parts (nat_le row.code 0xFFFFFE) (nat_le row.status 0xFF) h in
     record { code = leb-true row.code 0xFFFFFE parts.0; status = leb-true row.status 0xFF parts.1 }
 
-pub codes_fit : (raw : RawSetup) → IsSetup raw → All CodeFits raw.dtcs
-codes_fit raw h = each code_is_in_range CodeFits code-fits raw.dtcs (all_rows code_is_in_range 4096 raw.dtcs (parts_of raw h).5)
+pub dtcs_fit : (raw : RawSetup) → IsSetup raw → All DtcFits raw.dtcs
+dtcs_fit raw h = each dtc_is_in_range DtcFits dtc-fits raw.dtcs (all_rows dtc_is_in_range 4096 raw.dtcs (parts_of raw h).5)
 
 level_in_list-fits : (levels : List RawLevel) → list_all level_is_in_range levels ≡ true → (n : ℕ) → has_key level_sub levels n ≡ true → n ≤ 65
 level_in_list-fits [] all n h = cc
@@ -235,7 +235,7 @@ dids_fit raw h =
       write_level = known_level-fits raw.levels (levels-in_range raw h) did.write_level levels.1;
     }
 
-on_done-fits : (on_done : Option RawCode) → on_done_is_in_range on_done ≡ true → OnDoneFits on_done
+on_done-fits : (on_done : Option RawDtc) → on_done_is_in_range on_done ≡ true → OnDoneFits on_done
 on_done-fits None h = tt
 on_done-fits (Some row) h = leb-true row.status 0xFF h
 
@@ -332,8 +332,8 @@ tables raw h = and4 (is_rising did_id raw.dids) (is_rising dtc_code raw.dtcs) (i
 pub dids_rise : (raw : RawSetup) → IsSetup raw → IsTrue (is_rising did_id raw.dids)
 dids_rise raw h = (tables raw h).0
 
-pub codes_rise : (raw : RawSetup) → IsSetup raw → IsTrue (is_rising dtc_code raw.dtcs)
-codes_rise raw h = (tables raw h).1
+pub dtcs_rise : (raw : RawSetup) → IsSetup raw → IsTrue (is_rising dtc_code raw.dtcs)
+dtcs_rise raw h = (tables raw h).1
 
 pub routines_rise : (raw : RawSetup) → IsSetup raw → IsTrue (is_rising routine_id raw.routines)
 routines_rise raw h = (tables raw h).2

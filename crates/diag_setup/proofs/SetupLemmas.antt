@@ -4,11 +4,11 @@ use Rattle.std.specs.List.{list_any, list_all}
 use Rattle.std.proofs.lemmas.List.Sorted.{list_any-IsPermutation, length_permutation}
 use Rattle.diag_setup.specs.declared.raw.RawSetup.{RawSetup}
 use Rattle.diag_setup.specs.declared.raw.RawDid.{RawDid}
-use Rattle.diag_setup.specs.declared.raw.RawCode.{RawCode}
+use Rattle.diag_setup.specs.declared.raw.RawDtc.{RawDtc}
 use Rattle.diag_setup.specs.declared.raw.RawRoutine.{RawRoutine}
 use Rattle.diag_setup.specs.declared.raw.RawLevel.{RawLevel}
 use Rattle.diag_setup.specs.Rows.{has_repeat, in_order, insert_in_order}
-use Rattle.diag_setup.specs.Setup.{did_id, dtc_code, routine_id, level_sub, first_holding, fault_of, faults, sorted, is_in_range, dids_are_in_range, codes_are_in_range, routines_are_in_range, levels_are_in_range, did_is_in_range, code_is_in_range, routine_is_in_range, level_is_in_range, lacks_rows, has_no_rows, has_repeated_id, has_repeated_name, has_duplicates, names_unknown_code, names_unknown_level, done_code_is_known, is_known_code, is_known_level, did_levels_are_known, routine_level_is_known, answer_level_is_known, IsSetup}
+use Rattle.diag_setup.specs.Setup.{did_id, dtc_code, routine_id, level_sub, first_holding, fault_of, faults, sorted, is_in_range, dids_are_in_range, dtcs_are_in_range, routines_are_in_range, levels_are_in_range, did_is_in_range, dtc_is_in_range, routine_is_in_range, level_is_in_range, lacks_rows, has_no_rows, has_repeated_id, has_repeated_name, has_duplicates, names_unknown_code, names_unknown_level, done_code_is_known, is_known_code, is_known_level, did_levels_are_known, routine_level_is_known, answer_level_is_known, IsSetup}
 use Rattle.diag_setup.proofs.SortLemmas.{in_order-moves, in_order-no_repeat, in_order-is_rising}
 
 -- no check of a list holds
@@ -63,8 +63,8 @@ module _ {X : Type 0} (key : X → ℕ) (xs : List X) where
 dids-in_range : (rows : List RawDid) → dids_are_in_range (in_order did_id rows) ≡ dids_are_in_range rows
 dids-in_range rows = rw (length-in_order did_id rows, list_all-in_order did_id did_is_in_range rows) refl
 
-codes-in_range : (rows : List RawCode) → codes_are_in_range (in_order dtc_code rows) ≡ codes_are_in_range rows
-codes-in_range rows = rw (length-in_order dtc_code rows, list_all-in_order dtc_code code_is_in_range rows) refl
+dtcs-in_range : (rows : List RawDtc) → dtcs_are_in_range (in_order dtc_code rows) ≡ dtcs_are_in_range rows
+dtcs-in_range rows = rw (length-in_order dtc_code rows, list_all-in_order dtc_code dtc_is_in_range rows) refl
 
 routines-in_range : (rows : List RawRoutine) → routines_are_in_range (in_order routine_id rows) ≡ routines_are_in_range rows
 routines-in_range rows = rw (length-in_order routine_id rows, list_all-in_order routine_id routine_is_in_range rows) refl
@@ -73,16 +73,16 @@ levels-in_range : (rows : List RawLevel) → levels_are_in_range (in_order level
 levels-in_range rows = rw (length-in_order level_sub rows, list_all-in_order level_sub level_is_in_range rows) refl
 
 sorted-in_range : (raw : RawSetup) → is_in_range (sorted raw) ≡ is_in_range raw
-sorted-in_range raw = rw (dids-in_range raw.dids, codes-in_range raw.dtcs, routines-in_range raw.routines, levels-in_range raw.levels) refl
+sorted-in_range raw = rw (dids-in_range raw.dids, dtcs-in_range raw.dtcs, routines-in_range raw.routines, levels-in_range raw.levels) refl
 
 sorted-lacks : (raw : RawSetup) → lacks_rows (sorted raw) ≡ lacks_rows raw
 sorted-lacks raw = rw (list_any-in_order level_sub raw.levels has_no_rows) refl
 
-done_code-in_order : (codes : List RawCode) (routine : RawRoutine) → done_code_is_known (in_order dtc_code codes) routine ≡ done_code_is_known codes routine
-done_code-in_order codes routine =
-    elim routine.on_done as (λ o. is_known_code (in_order dtc_code codes) o ≡ is_known_code codes o) [
+done_code-in_order : (dtcs : List RawDtc) (routine : RawRoutine) → done_code_is_known (in_order dtc_code dtcs) routine ≡ done_code_is_known dtcs routine
+done_code-in_order dtcs routine =
+    elim routine.on_done as (λ o. is_known_code (in_order dtc_code dtcs) o ≡ is_known_code dtcs o) [
       | None ↦ refl
-      | Some row ↦ list_any-in_order dtc_code codes (λ r. dtc_code r == row.code)
+      | Some row ↦ list_any-in_order dtc_code dtcs (λ r. dtc_code r == row.code)
     ]
 
 known_level-in_order : (levels : List RawLevel) (level : ℕ) → is_known_level (in_order level_sub levels) level ≡ is_known_level levels level

@@ -3,7 +3,7 @@ use Rattle.std.specs.Prelude.{ℕ, true, false, List, [], ◌∷◌, map, Option
 use Rattle.diag_setup.specs.declared.raw.RawSetup.{RawSetup}
 use Rattle.diag_setup.specs.declared.raw.RawTester.{RawTester}
 use Rattle.diag_setup.specs.declared.raw.RawDid.{RawDid}
-use Rattle.diag_setup.specs.declared.raw.RawCode.{RawCode}
+use Rattle.diag_setup.specs.declared.raw.RawDtc.{RawDtc}
 use Rattle.diag_setup.specs.declared.raw.RawRoutine.{RawRoutine}
 use Rattle.diag_setup.specs.declared.raw.RawKeyRow.{RawKeyRow}
 use Rattle.diag_setup.specs.declared.raw.RawLevel.{RawLevel}
@@ -27,8 +27,8 @@ did = record {
   varies = false;
 }
 
-abbrev pub code : RawCode
-code = record { code = 0x012345; status = 0x2F }
+abbrev pub dtc : RawDtc
+dtc = record { code = 0x012345; status = 0x2F }
 
 abbrev pub routine : RawRoutine
 routine = record {
@@ -36,7 +36,7 @@ routine = record {
   time_ms = 100;
   result = 0x01 ∷ [];
   level = 0;
-  on_done = Some code;
+  on_done = Some dtc;
 }
 
 abbrev pub key_row : List ℕ → List ℕ → RawKeyRow
@@ -69,7 +69,7 @@ two_testers = record {
   delay_ms = 2000;
   testers = tester (codes "A") 0x7E0 0x7E8 ∷ tester (codes "B") 0x7E1 0x7E9 ∷ [];
   dids = did ∷ [];
-  dtcs = code ∷ [];
+  dtcs = dtc ∷ [];
   routines = routine ∷ [];
   levels = level ∷ [];
   answers = [];

@@ -4,7 +4,7 @@ use Rattle.std.specs.List.{All}
 use Rattle.diag_setup.specs.declared.raw.RawSetup.{RawSetup}
 use Rattle.diag_setup.specs.declared.raw.RawTester.{RawTester}
 use Rattle.diag_setup.specs.declared.raw.RawDid.{RawDid}
-use Rattle.diag_setup.specs.declared.raw.RawCode.{RawCode}
+use Rattle.diag_setup.specs.declared.raw.RawDtc.{RawDtc}
 use Rattle.diag_setup.specs.declared.raw.RawRoutine.{RawRoutine}
 use Rattle.diag_setup.specs.declared.raw.RawKeyRow.{RawKeyRow}
 use Rattle.diag_setup.specs.declared.raw.RawLevel.{RawLevel}
@@ -27,11 +27,11 @@ pub record DidFits (did : RawDid) : Type 0 where
   pub read_level : did.read_level ≤ 65
   pub write_level : did.write_level ≤ 65
 
-pub record CodeFits (row : RawCode) : Type 0 where
+pub record DtcFits (row : RawDtc) : Type 0 where
   pub code : row.code ≤ 0xFFFFFE
   pub status : row.status ≤ 0xFF
 
-abbrev pub OnDoneFits : Option RawCode → Type 0
+abbrev pub OnDoneFits : Option RawDtc → Type 0
 OnDoneFits None = Unit {0}
 OnDoneFits (Some row) = row.status ≤ 0xFF
 

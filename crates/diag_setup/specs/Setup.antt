@@ -10,7 +10,7 @@ use Rattle.diag_setup.specs.Rows.{is_between, has_length, have_one_length, has_k
 use Rattle.diag_setup.specs.declared.raw.RawSetup.{RawSetup}
 use Rattle.diag_setup.specs.declared.raw.RawTester.{RawTester}
 use Rattle.diag_setup.specs.declared.raw.RawDid.{RawDid}
-use Rattle.diag_setup.specs.declared.raw.RawCode.{RawCode}
+use Rattle.diag_setup.specs.declared.raw.RawDtc.{RawDtc}
 use Rattle.diag_setup.specs.declared.raw.RawRoutine.{RawRoutine}
 use Rattle.diag_setup.specs.declared.raw.RawKeyRow.{RawKeyRow}
 use Rattle.diag_setup.specs.declared.raw.RawLevel.{RawLevel}
@@ -25,7 +25,7 @@ use Rattle.diag_setup.specs.declared.fault.SetupFault.TheVariants.{Range, Empty,
 abbrev pub did_id : RawDid → ℕ
 did_id did = did.id
 
-abbrev pub dtc_code : RawCode → ℕ
+abbrev pub dtc_code : RawDtc → ℕ
 dtc_code row = row.code
 
 abbrev pub routine_id : RawRoutine → ℕ
@@ -61,11 +61,11 @@ tester_is_in_range tester =
 abbrev pub did_is_in_range : RawDid → Bool
 did_is_in_range did = nat_le did.id 0xFFFF && has_length 1 255 did.value
 
-abbrev pub code_is_in_range : RawCode → Bool
-code_is_in_range row = nat_le row.code 0xFFFFFE && nat_le row.status 0xFF
+abbrev pub dtc_is_in_range : RawDtc → Bool
+dtc_is_in_range row = nat_le row.code 0xFFFFFE && nat_le row.status 0xFF
 
 -- the code that a routine names is one of the list, so it has no range of its own
-abbrev pub on_done_is_in_range : Option RawCode → Bool
+abbrev pub on_done_is_in_range : Option RawDtc → Bool
 on_done_is_in_range None = true
 on_done_is_in_range (Some row) = nat_le row.status 0xFF
 
@@ -151,8 +151,8 @@ testers_are_in_range testers = nat_le (length testers) 8 && list_all tester_is_i
 abbrev pub dids_are_in_range : List RawDid → Bool
 dids_are_in_range dids = nat_le (length dids) 1024 && list_all did_is_in_range dids
 
-abbrev pub codes_are_in_range : List RawCode → Bool
-codes_are_in_range codes = nat_le (length codes) 4096 && list_all code_is_in_range codes
+abbrev pub dtcs_are_in_range : List RawDtc → Bool
+dtcs_are_in_range dtcs = nat_le (length dtcs) 4096 && list_all dtc_is_in_range dtcs
 
 abbrev pub routines_are_in_range : List RawRoutine → Bool
 routines_are_in_range routines =
@@ -183,7 +183,7 @@ abbrev pub is_in_range : RawSetup → Bool
 is_in_range raw =
     times_are_in_range raw && link_is_in_range raw && server_is_in_range raw
     && testers_are_in_range raw.testers && dids_are_in_range raw.dids
-    && codes_are_in_range raw.dtcs && routines_are_in_range raw.routines
+    && dtcs_are_in_range raw.dtcs && routines_are_in_range raw.routines
     && levels_are_in_range raw.levels && answers_are_in_range raw && ignored_are_in_range raw.ignore
 
 abbrev pub has_no_rows : RawLevel → Bool
@@ -239,16 +239,16 @@ has_duplicates raw =
     || has_repeat did_id raw.dids || has_repeat dtc_code raw.dtcs
     || has_repeat routine_id raw.routines || has_repeat level_sub raw.levels
 
-abbrev pub is_known_code : List RawCode → Option RawCode → Bool
-is_known_code codes None = true
-is_known_code codes (Some row) = has_key dtc_code codes row.code
+abbrev pub is_known_code : List RawDtc → Option RawDtc → Bool
+is_known_code dtcs None = true
+is_known_code dtcs (Some row) = has_key dtc_code dtcs row.code
 
 -- a level that is 0 is open
 abbrev pub is_known_level : List RawLevel → ℕ → Bool
 is_known_level levels level = level == 0 || has_key level_sub levels level
 
-abbrev pub done_code_is_known : List RawCode → RawRoutine → Bool
-done_code_is_known codes routine = is_known_code codes routine.on_done
+abbrev pub done_code_is_known : List RawDtc → RawRoutine → Bool
+done_code_is_known dtcs routine = is_known_code dtcs routine.on_done
 
 abbrev pub routine_level_is_known : List RawLevel → RawRoutine → Bool
 routine_level_is_known levels routine = is_known_level levels routine.level
@@ -314,15 +314,15 @@ setup_or_fault (Some fault) raw = Err fault
 abbrev pub checked : RawSetup → Result RawSetup SetupFault
 checked raw = setup_or_fault (fault_of raw) raw
 
--- the tester at an index from 0, by its place
+-- the tester at an index from 0, by its number
 abbrev pub who_at : RawSetup → ℕ → Option ℕ
 who_at setup i = if nat_lt i (length setup.testers) then Some (i + 1) else None
 
--- what stands for the tester of a place that has none
+-- what stands for the tester of a number that has none
 abbrev pub nobody : RawTester
 nobody = record { name = []; request = 0; response = 0; extended = false; functional = None }
 
--- the tester of a place from 1
+-- the tester of a number from 1
 abbrev pub tester_of : RawSetup → ℕ → RawTester
 tester_of setup who = unwrap_or (slice_get setup.testers (who - 1)) nobody
 

@@ -4,13 +4,13 @@ ghost use Rattle.std.specs.Prelude.{◌≡◌, ◌==◌, ◌≤◌, ◌&&◌, Bo
 ghost use Rattle.std.specs.List.{All, list_all, list_any};
 ghost use Rattle.std.specs.Bool.{OnTrue};
 ghost use Rattle.diag_setup.specs.Rows.{is_between, have_one_length};
-ghost use Rattle.diag_setup.specs.Setup.{can_ids, has_name, has_repeated_name, has_no_rows, is_known_level, done_code_is_known, did_levels_are_known, routine_level_is_known, answer_level_is_known, lacks_rows, has_duplicates, names_unknown_code, names_unknown_level, key_of, seed_of, fault_of, is_in_range, times_are_in_range, link_is_in_range, server_is_in_range, tester_is_in_range, did_is_in_range, code_is_in_range, routine_is_in_range, key_row_is_in_range, level_is_in_range, is_st_min, is_name_byte, is_can_id, is_wide_id, is_id_by, is_own_id, id_by, functional_number, functional_of, asks_by, has_repeated_id, pattern_is_in_range};
+ghost use Rattle.diag_setup.specs.Setup.{can_ids, has_name, has_repeated_name, has_no_rows, is_known_level, done_code_is_known, did_levels_are_known, routine_level_is_known, answer_level_is_known, lacks_rows, has_duplicates, names_unknown_code, names_unknown_level, key_of, seed_of, fault_of, is_in_range, times_are_in_range, link_is_in_range, server_is_in_range, tester_is_in_range, did_is_in_range, dtc_is_in_range, routine_is_in_range, key_row_is_in_range, level_is_in_range, is_st_min, is_name_byte, is_can_id, is_wide_id, is_id_by, is_own_id, id_by, functional_number, functional_of, asks_by, has_repeated_id, pattern_is_in_range};
 ghost use Rattle.diag_setup.specs.Fits.{IdFits, TesterFits};
 
 use crate::fault::SetupFault;
 use crate::keyed::{has_key, has_repeat};
 use crate::raw::{
-    RawAnswer, RawCode, RawDid, RawKeyRow, RawLevel, RawPattern, RawRoutine, RawSetup, RawTester,
+    RawAnswer, RawDid, RawDtc, RawKeyRow, RawLevel, RawPattern, RawRoutine, RawSetup, RawTester,
 };
 use arrayvec::ArrayVec;
 
@@ -130,8 +130,8 @@ impl Ranged for RawDid {
     }
 }
 
-impl Ranged for RawCode {
-    ghost in_range = { code_is_in_range };
+impl Ranged for RawDtc {
+    ghost in_range = { dtc_is_in_range };
 
     fn is_in_range(&self) -> bool {
         self.code <= 0xFF_FFFE && self.status <= 0xFF
@@ -378,21 +378,21 @@ fn is_known_level(levels: &[RawLevel], level: u32) -> bool
     level == 0 || has_key(levels, level)
 }
 
-fn done_code_is_known(codes: &[RawCode], routine: &RawRoutine) -> bool
-    ensures { result ≡ done_code_is_known codes.now routine.now }
+fn done_code_is_known(dtcs: &[RawDtc], routine: &RawRoutine) -> bool
+    ensures { result ≡ done_code_is_known dtcs.now routine.now }
 {
     match &routine.on_done {
-        Some(row) => has_key(codes, row.code),
+        Some(row) => has_key(dtcs, row.code),
         None => true,
     }
 }
 
-fn done_codes_are_known(codes: &[RawCode], routines: &[RawRoutine]) -> bool
-    ensures { result ≡ list_all (done_code_is_known codes.now) routines.now }
+fn done_codes_are_known(dtcs: &[RawDtc], routines: &[RawRoutine]) -> bool
+    ensures { result ≡ list_all (done_code_is_known dtcs.now) routines.now }
 {
     routines
         .iter()
-        .all(|routine| done_code_is_known(codes, routine))
+        .all(|routine| done_code_is_known(dtcs, routine))
 }
 
 fn did_levels_are_known(levels: &[RawLevel], did: &RawDid) -> bool

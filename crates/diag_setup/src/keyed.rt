@@ -5,7 +5,7 @@ ghost use Rattle.std.specs.List.Sorted.{IsNonDecreasingBy};
 ghost use Rattle.diag_setup.specs.Rows.{has_key, has_repeat, in_order};
 ghost use Rattle.diag_setup.specs.Setup.{did_id, dtc_code, routine_id, level_sub, itself};
 
-use crate::raw::{Keyed, RawCode, RawDid, RawLevel, RawRoutine};
+use crate::raw::{Keyed, RawDid, RawDtc, RawLevel, RawRoutine};
 use arrayvec::ArrayVec;
 
 /// The most rows of a table whose keys differ.
@@ -19,7 +19,7 @@ impl Keyed for RawDid {
     }
 }
 
-impl Keyed for RawCode {
+impl Keyed for RawDtc {
     ghost key_of = { dtc_code };
 
     fn key(&self) -> u32 {

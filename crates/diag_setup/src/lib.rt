@@ -13,7 +13,7 @@ mod tester_id;
 pub use fault::SetupFault;
 pub use items::Items;
 pub use raw::{
-    Keyed, PatternItem, RawAnswer, RawCode, RawDid, RawKeyRow, RawLevel, RawPattern, RawRoutine,
+    Keyed, PatternItem, RawAnswer, RawDid, RawDtc, RawKeyRow, RawLevel, RawPattern, RawRoutine,
     RawSetup, RawTester, TemplateItem,
 };
 pub use setup::{ServerParameters, Setup};

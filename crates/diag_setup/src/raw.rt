@@ -24,9 +24,9 @@ pub struct RawSetup {
     pub st_min: u32,
     /// The longest request, in bytes, 8 to 65535.
     pub max_request: u32,
-    /// Whether frames are filled to 8 bytes.
+    /// Whether frames are padded to 8 bytes.
     pub pad: bool,
-    /// The byte that fills them, 0 to 255.
+    /// The byte that pads them, 0 to 255.
     pub pad_byte: u32,
     /// DTCStatusAvailabilityMask, 0 to 255 (ISO 14229-1:2013, 11.3).
     pub availability: u32,
@@ -41,7 +41,7 @@ pub struct RawSetup {
     /// Up to 1024 data identifiers, no two equal.
     pub dids: Items<RawDid>,
     /// Up to 4096 DTCs, no two equal.
-    pub dtcs: Items<RawCode>,
+    pub dtcs: Items<RawDtc>,
     /// Up to 256 routines, no two of one identifier.
     pub routines: Items<RawRoutine>,
     /// Up to 4 security levels, no two of one sub-function.
@@ -87,7 +87,7 @@ pub struct RawDid {
 
 /// A DTC with its status.
 #[derive(Clone, Copy, PartialEq, Eq, Debug, Drop)]
-pub struct RawCode {
+pub struct RawDtc {
     /// The code of three bytes, 0 to 0xFFFFFE.
     pub code: u32,
     /// statusOfDTC, 0 to 255 (ISO 14229-1:2013, D.2).
@@ -105,8 +105,8 @@ pub struct RawRoutine {
     pub result: Items<u8>,
     /// The sub-function of the level that it needs; 0 is open.
     pub level: u32,
-    /// A code of the list, which gets the status beside it when the routine is done.
-    pub on_done: Option<RawCode>,
+    /// A DTC of the list, which gets the status beside it when the routine is done.
+    pub on_done: Option<RawDtc>,
 }
 
 /// A seed with its key.

@@ -4,11 +4,11 @@ ghost use Rattle.std.specs.Prelude.{IsTrue, IfOk, ◌≡◌, ◌≤◌, ◌-◌,
 ghost use Rattle.std.specs.List.{All, flat_map};
 ghost use Rattle.diag_setup.specs.Setup.{IsSetup, checked, did_id, dtc_code, routine_id, level_sub, who_at, name_of, ids_of, link_ids, known_ids, wide_ids, link_of, values_of, id_by};
 ghost use Rattle.diag_setup.specs.Rows.{is_rising};
-ghost use Rattle.diag_setup.specs.Fits.{IdFits, TesterFits, DidFits, CodeFits, RoutineFits, LevelFits, AnswerFits, NumbersFit};
+ghost use Rattle.diag_setup.specs.Fits.{IdFits, TesterFits, DidFits, DtcFits, RoutineFits, LevelFits, AnswerFits, NumbersFit};
 
 use crate::fault::SetupFault;
 use crate::raw::{
-    RawAnswer, RawCode, RawDid, RawLevel, RawPattern, RawRoutine, RawSetup, RawTester,
+    RawAnswer, RawDid, RawDtc, RawLevel, RawPattern, RawRoutine, RawSetup, RawTester,
 };
 use crate::tester_id::TesterId;
 use diag_can::{CanId, Ids, TickCount};
@@ -188,12 +188,12 @@ impl Setup {
     }
 
     /// The DTCs in rising order.
-    #[tactic(auto, using(crate::proofs::FitLemmas::codes_fit, crate::proofs::FitLemmas::codes_few, crate::proofs::FitLemmas::codes_rise))]
-    pub fn dtcs(&self) -> &[RawCode]
+    #[tactic(auto, using(crate::proofs::FitLemmas::dtcs_fit, crate::proofs::FitLemmas::dtcs_few, crate::proofs::FitLemmas::dtcs_rise))]
+    pub fn dtcs(&self) -> &[RawDtc]
         ensures same { result.now ≡ self.now.dtcs }
         ensures rising { IsTrue (is_rising dtc_code result.now) }
         ensures few { length result.now ≤ 4096 }
-        ensures fit { All CodeFits result.now }
+        ensures fit { All DtcFits result.now }
     {
         self.raw.dtcs.as_slice()
     }

@@ -3,7 +3,7 @@ use Rattle.std.specs.Prelude.{ℕ, ◌==◌, nat_le, min, ◌&&◌, if◌then◌
 
 -- the ticks that a separation time means
 abbrev pub gap_ticks : ℕ → ℕ
-gap_ticks st = if nat_le st 127 then st else if nat_le 241 st && nat_le st 249 then 1 else 127
+gap_ticks st_min = if nat_le st_min 127 then st_min else if nat_le 241 st_min && nat_le st_min 249 then 1 else 127
 
 -- what ends the waiting of a sender
 pub data Decision : Type 0 where
@@ -12,8 +12,8 @@ pub data Decision : Type 0 where
   GiveUp : Decision
 
 abbrev pub flow_decision : ℕ → ℕ → ℕ → Decision
-flow_decision status block st =
-    if status == 0 then Go block (gap_ticks st) else if status == 1 then Wait else GiveUp
+flow_decision flow_status block st_min =
+    if flow_status == 0 then Go block (gap_ticks st_min) else if flow_status == 1 then Wait else GiveUp
 
 -- how many of the frames that are left a block has; 0 stands for all
 abbrev pub block_size : ℕ → ℕ → ℕ

@@ -1,5 +1,5 @@
 pub mod Receiver
-pub mod Held
+pub mod PartialBytes
 pub mod Flow
 pub mod Sender
 pub mod Queue

@@ -3,7 +3,7 @@ use Rattle.std.specs.Prelude.{ℕ, ◌+◌, ◌-◌, ◌^◌, Option, Some, None
 use Rattle.diag_sides.specs.declared.sending.Sending.{Sending}
 use Rattle.diag_sides.specs.declared.sending.Phase.{Phase}
 use Rattle.diag_sides.specs.declared.sending.Phase.TheVariants.{AwaitsFlow, InBlock}
-use Rattle.diag_sides.specs.Receiver.{Partial}
+use Rattle.diag_sides.specs.Receiver.{Receiving}
 use Rattle.diag_sides.specs.Sender.{in_phase}
 
 -- for ever
@@ -11,7 +11,7 @@ abbrev pub always : ℕ
 always = 2 ^ 64 - 1
 
 -- until the reception ends
-abbrev pub reception_quiet : ℕ → Option Partial → ℕ
+abbrev pub reception_quiet : ℕ → Option Receiving → ℕ
 reception_quiet n_cr None = always
 reception_quiet n_cr (Some p) = n_cr - p.silence
 
@@ -25,7 +25,7 @@ sender_quiet None = always
 sender_quiet (Some c) = phase_quiet c.phase
 
 -- a reception so many ticks later, in which it didn't end
-abbrev pub reception_later : ℕ → Option Partial → Option Partial
+abbrev pub reception_later : ℕ → Option Receiving → Option Receiving
 reception_later n None = None
 reception_later n (Some p) =
     Some (record { len = p.len; count = p.count; bytes = p.bytes; silence = p.silence + n })

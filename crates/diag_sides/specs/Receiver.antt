@@ -7,15 +7,15 @@ use Rattle.diag_pdu.specs.Request.{request_of}
 use Rattle.diag_pdu.specs.Cut.{head_size, consecutive_count, filled, flow_bytes}
 
 -- a message received in part: its length, how many Consecutives came, the bytes so far, the ticks since the last frame
-pub record Partial : Type 0 where
+pub record Receiving : Type 0 where
   pub len : ℕ
   pub count : ℕ
   pub bytes : List ℕ
   pub silence : ℕ
 
 -- a reception as it is kept: what of it the next frames need, and the request that is staged with its last part
-pub record PartialView : Type 0 where
-  pub seen : Partial
+pub record ReceivingView : Type 0 where
+  pub seen : Receiving
   pub staged : Option Request
 
 -- how many bytes came with the First and so many Consecutives
@@ -23,89 +23,89 @@ abbrev pub kept_bytes : ℕ → ℕ → ℕ
 kept_bytes len count = min len (head_size len + 7 * count)
 
 -- after the First
-abbrev pub begun_partial : ℕ → List ℕ → Partial
-begun_partial len head = record { len = len; count = 0; bytes = head; silence = 0 }
+abbrev pub begun_receiving : ℕ → List ℕ → Receiving
+begun_receiving len head = record { len = len; count = 0; bytes = head; silence = 0 }
 
 -- a Consecutive of this number and size is the next one
-abbrev pub expects : Partial → ℕ → ℕ → Bool
-expects p number size =
-    (number == (p.count + 1) % 16) && nat_le (min 7 (p.len - head_size p.len - 7 * p.count)) size
+abbrev pub expects : Receiving → ℕ → ℕ → Bool
+expects p sequence_number size =
+    (sequence_number == (p.count + 1) % 16) && nat_le (min 7 (p.len - head_size p.len - 7 * p.count)) size
 
-abbrev pub with_bytes : Partial → List ℕ → Partial
+abbrev pub with_bytes : Receiving → List ℕ → Receiving
 with_bytes p part =
     record { len = p.len; count = p.count + 1; bytes = take p.len (p.bytes ++ part); silence = 0 }
 
-abbrev pub is_complete : Partial → Bool
+abbrev pub is_complete : Receiving → Bool
 is_complete p = p.count == consecutive_count p.len
 
 -- with a further Consecutive; a wrong one ends the reception
-abbrev pub with_consecutive : ℕ → List ℕ → Partial → Option Partial
-with_consecutive number part p =
-    if expects p number (length part) then Some (with_bytes p part) else None
+abbrev pub with_consecutive : ℕ → List ℕ → Receiving → Option Receiving
+with_consecutive sequence_number part p =
+    if expects p sequence_number (length part) then Some (with_bytes p part) else None
 
 -- so many ticks later
-abbrev pub ticks_later : ℕ → ℕ → Partial → Option Partial
+abbrev pub ticks_later : ℕ → ℕ → Receiving → Option Receiving
 ticks_later n_cr n p =
     if nat_lt (p.silence + n) n_cr
     then Some (record { len = p.len; count = p.count; bytes = p.bytes; silence = p.silence + n })
     else None
 
-abbrev pub one_tick_later : ℕ → Partial → Option Partial
+abbrev pub one_tick_later : ℕ → Receiving → Option Receiving
 one_tick_later n_cr p = ticks_later n_cr 1 p
 
 -- what stays open: a message that is complete is given away
-abbrev pub if_open : Option Partial → Option Partial
+abbrev pub if_open : Option Receiving → Option Receiving
 if_open None = None
 if_open (Some p) = if is_complete p then None else Some p
 
-abbrev pub if_complete : Option Partial → Option (List ℕ)
+abbrev pub if_complete : Option Receiving → Option (List ℕ)
 if_complete None = None
 if_complete (Some p) = if is_complete p then Some p.bytes else None
 
 -- the reception after a frame
-abbrev pub open_after : Option Partial → Kind → Option Partial
+abbrev pub open_after : Option Receiving → Kind → Option Receiving
 open_after o (Single payload) = None
-open_after o (First len head) = Some (begun_partial len head)
+open_after o (First len head) = Some (begun_receiving len head)
 open_after o Overflow = None
-open_after o (Consecutive number part) = if_open (option_and_then (with_consecutive number part) o)
-open_after o (FlowControl status block gap) = o
+open_after o (Consecutive sequence_number part) = if_open (option_and_then (with_consecutive sequence_number part) o)
+open_after o (FlowControl flow_status block_size st_min) = o
 open_after o Ignored = o
 
 -- the message that a frame completes
-abbrev pub completed_by : Option Partial → Kind → Option (List ℕ)
+abbrev pub completed_by : Option Receiving → Kind → Option (List ℕ)
 completed_by o (Single payload) = Some payload
 completed_by o (First len head) = None
 completed_by o Overflow = None
-completed_by o (Consecutive number part) =
-    if_complete (option_and_then (with_consecutive number part) o)
-completed_by o (FlowControl status block gap) = None
+completed_by o (Consecutive sequence_number part) =
+    if_complete (option_and_then (with_consecutive sequence_number part) o)
+completed_by o (FlowControl flow_status block_size st_min) = None
 completed_by o Ignored = None
 
 -- a block of the reception is whole, and more is to come
-abbrev pub ends_block : LinkSetup → Partial → Bool
+abbrev pub ends_block : LinkSetup → Receiving → Bool
 ends_block s p = nat_lt 0 s.block_size && (p.count % s.block_size == 0)
     && nat_lt p.count (consecutive_count p.len)
 
 abbrev pub go_on : LinkSetup → List ℕ
 go_on s = filled s.pad (flow_bytes 0 s.block_size s.st_min)
 
-abbrev pub block_answer : LinkSetup → Option Partial → Option (List ℕ)
+abbrev pub block_answer : LinkSetup → Option Receiving → Option (List ℕ)
 block_answer s None = None
 block_answer s (Some p) = if ends_block s p then Some (go_on s) else None
 
 -- the flow control that answers a frame
-abbrev pub granted_by : LinkSetup → Option Partial → Kind → Option (List ℕ)
+abbrev pub granted_by : LinkSetup → Option Receiving → Kind → Option (List ℕ)
 granted_by s o (Single payload) = None
 granted_by s o (First len head) = Some (go_on s)
 granted_by s o Overflow = Some (filled s.pad (flow_bytes 2 0 0))
-granted_by s o (Consecutive number part) =
-    block_answer s (option_and_then (with_consecutive number part) o)
-granted_by s o (FlowControl status block gap) = None
+granted_by s o (Consecutive sequence_number part) =
+    block_answer s (option_and_then (with_consecutive sequence_number part) o)
+granted_by s o (FlowControl flow_status block_size st_min) = None
 granted_by s o Ignored = None
 
 -- what a receiver is
 pub record ReceiverState : Type 0 where
-  pub partial : Option Partial
+  pub partial : Option Receiving
   -- the bytes for which it has room
   pub room : ℕ
   -- the request that is staged, to be lent

@@ -2,9 +2,9 @@
 #![tactic(auto)]
 
 mod queue;
-mod reception;
+mod receiver;
 mod sender;
 mod sending;
 
-pub use reception::{Receiver, go_on};
+pub use receiver::{Receiver, go_on};
 pub use sender::Sender;

@@ -135,14 +135,14 @@ impl Sender {
     }
 
     /// A flow control frame.
-    pub fn flow(&mut self, setup: &LinkSetup, status: u8, block: u8, gap: u8)
+    pub fn flow(&mut self, setup: &LinkSetup, flow_status: u8, block_size: u8, st_min: u8)
         ensures current { self.new.current
-            ≡ flowed_fields setup.now (flow_decision status block gap) self.old.current }
+            ≡ flowed_fields setup.now (flow_decision flow_status block_size st_min) self.old.current }
         ensures waiting { self.new.waiting ≡ self.old.waiting }
         ensures room { self.new.room ≡ self.old.room }
     {
         if let Some(sending) = &mut self.current
-            && !sending.decide(setup, status, block, gap)
+            && !sending.decide(setup, flow_status, block_size, st_min)
         {
             self.end();
         }

@@ -58,11 +58,11 @@ pub(crate) struct Sending {
 }
 
 /// The ticks that a separation time (STmin) means: below a tick it is one, and a reserved value is the longest.
-fn gap_ticks(gap: u8) -> u16
-    ensures { result ≡ gap_ticks gap }
+fn gap_ticks(st_min: u8) -> u16
+    ensures { result ≡ gap_ticks st_min }
 {
-    match gap {
-        0..=127 => u16::from(gap),
+    match st_min {
+        0..=127 => u16::from(st_min),
         241..=249 => 1,
         _ => 127,
     }
@@ -126,17 +126,23 @@ impl Sending {
     }
 
     /// A flow control frame comes; false where it ends the message.
-    pub(crate) fn decide(&mut self, setup: &LinkSetup, status: u8, block: u8, gap: u8) -> bool
+    pub(crate) fn decide(
+        &mut self,
+        setup: &LinkSetup,
+        flow_status: u8,
+        block: u8,
+        st_min: u8,
+    ) -> bool
         requires sound { IsSound self.old }
         ensures fields { (if result then Some self.new else None)
-            ≡ flow_fields setup.now self.old (flow_decision status block gap) self.old.phase }
+            ≡ flow_fields setup.now self.old (flow_decision flow_status block st_min) self.old.phase }
         ensures sound { IsSound self.new }
     {
         if matches!(self.phase, Phase::InBlock { .. }) {
             return true;
         }
-        match status {
-            0 => self.begin_block(setup, block, gap_ticks(gap)),
+        match flow_status {
+            0 => self.begin_block(setup, block, gap_ticks(st_min)),
             1 => self.phase = awaits_flow(setup),
             _ => return false,
         }

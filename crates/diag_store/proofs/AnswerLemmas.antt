@@ -52,7 +52,7 @@ other_first access (b ∷ p) row some other = begins row.pattern other
     begins [] e = cc
     begins (x ∷ items) e = rw e refl
 
--- no row up to a place applies
+-- no row up to an index applies
 abbrev pub NoneBefore : {X : Type 0} → (X → Bool) → List X → ℕ → Type 0
 NoneBefore {X} test xs n = (k : ℕ) (d : X) → k < n → k < length xs → test (slice_index_or xs k d) ≡ false
 
@@ -102,60 +102,60 @@ first_nowhere test (x ∷ xs) n none past =
 -- ---- a row whose next template moves on
 
 -- what is told of each row stays, where it doesn't look at the next template
-stays : {X : Type 0} (f : AnswerRow → X) → ((row : AnswerRow) → f (moved_on row) ≡ f row) → (rows : List AnswerRow) (place : ℕ)
-    → map f (rows_moved_on rows place) ≡ map f rows
-stays f same [] place = refl
+stays : {X : Type 0} (f : AnswerRow → X) → ((row : AnswerRow) → f (moved_on row) ≡ f row) → (rows : List AnswerRow) (index : ℕ)
+    → map f (rows_moved_on rows index) ≡ map f rows
+stays f same [] index = refl
 stays f same (row ∷ rows) zero = ap (λ x. x ∷ map f rows) (same row)
-stays f same (row ∷ rows) (suc place) =
-    let rest = stays f same rows place in
-    elim (slice_get rows place) as (λ o. map f (with_moved_on rows place o) ≡ map f rows
-    → map f (with_moved_on (row ∷ rows) (suc place) o) ≡ map f (row ∷ rows)) [
+stays f same (row ∷ rows) (suc index) =
+    let rest = stays f same rows index in
+    elim (slice_get rows index) as (λ o. map f (with_moved_on rows index o) ≡ map f rows
+    → map f (with_moved_on (row ∷ rows) (suc index) o) ≡ map f (row ∷ rows)) [
       | None ↦ λ e. refl
       | Some moved ↦ λ e. ap (λ xs. f row ∷ xs) e
     ] rest
 
 -- the first items stay
-pub firsts_stay : (rows : List AnswerRow) (place : ℕ) → map row_first (rows_moved_on rows place) ≡ map row_first rows
-firsts_stay rows place = stays row_first (λ row. refl) rows place
+pub firsts_stay : (rows : List AnswerRow) (index : ℕ) → map row_first (rows_moved_on rows index) ≡ map row_first rows
+firsts_stay rows index = stays row_first (λ row. refl) rows index
 
 any_by_each : (rows : List AnswerRow) → any_late rows ≡ list_any (λ b. b) (map is_late rows)
 any_by_each [] = refl
 any_by_each (row ∷ rows) = ap (λ b. is_late row || b) (any_by_each rows)
 
 -- and whether one has its answer go later
-pub late_stays : (rows : List AnswerRow) (place : ℕ) → any_late (rows_moved_on rows place) ≡ any_late rows
-late_stays rows place =
-    any_by_each (rows_moved_on rows place) ∙ (ap (list_any (λ b. b)) (stays is_late (λ row. refl) rows place) ∙ sym (any_by_each rows))
+pub late_stays : (rows : List AnswerRow) (index : ℕ) → any_late (rows_moved_on rows index) ≡ any_late rows
+late_stays rows index =
+    any_by_each (rows_moved_on rows index) ∙ (ap (list_any (λ b. b)) (stays is_late (λ row. refl) rows index) ∙ sym (any_by_each rows))
 
-pub count_stays : (rows : List AnswerRow) (place : ℕ) → length (rows_moved_on rows place) ≡ length rows
-count_stays [] place = refl
+pub count_stays : (rows : List AnswerRow) (index : ℕ) → length (rows_moved_on rows index) ≡ length rows
+count_stays [] index = refl
 count_stays (row ∷ rows) zero = refl
-count_stays (row ∷ rows) (suc place) =
-    let rest = count_stays rows place in
-    elim (slice_get rows place) as (λ o. length (with_moved_on rows place o) ≡ length rows
-    → length (with_moved_on (row ∷ rows) (suc place) o) ≡ suc (length rows)) [
+count_stays (row ∷ rows) (suc index) =
+    let rest = count_stays rows index in
+    elim (slice_get rows index) as (λ o. length (with_moved_on rows index o) ≡ length rows
+    → length (with_moved_on (row ∷ rows) (suc index) o) ≡ suc (length rows)) [
       | None ↦ λ e. refl
       | Some moved ↦ λ e. ap (λ n. suc n) e
     ] rest
 
-pub moved_in_place : (rows : List AnswerRow) (place : ℕ) (row : AnswerRow) → place < length rows → row ≡ slice_index_or rows place row
-    → rows_moved_on rows place ≡ slice_set rows place (moved_on row)
-moved_in_place [] place row within is = absurd (omega arith)
+pub moved_in_place : (rows : List AnswerRow) (index : ℕ) (row : AnswerRow) → index < length rows → row ≡ slice_index_or rows index row
+    → rows_moved_on rows index ≡ slice_set rows index (moved_on row)
+moved_in_place [] index row within is = absurd (omega arith)
 moved_in_place (x ∷ rows) zero row within is = rw is refl
-moved_in_place (x ∷ rows) (suc place) row within is =
-    let rest = moved_in_place rows place row (omega arith) is in
-    elim (slice_get rows place) as (λ o. with_moved_on rows place o ≡ slice_set rows place (moved_on row)
-    → with_moved_on (x ∷ rows) (suc place) o ≡ x ∷ slice_set rows place (moved_on row)) [
+moved_in_place (x ∷ rows) (suc index) row within is =
+    let rest = moved_in_place rows index row (omega arith) is in
+    elim (slice_get rows index) as (λ o. with_moved_on rows index o ≡ slice_set rows index (moved_on row)
+    → with_moved_on (x ∷ rows) (suc index) o ≡ x ∷ slice_set rows index (moved_on row)) [
       | None ↦ λ e. ap (λ ys. x ∷ ys) e
       | Some moved ↦ λ e. ap (λ ys. x ∷ ys) e
     ] rest
 
-pub moved_nowhere : (rows : List AnswerRow) (place : ℕ) → length rows ≤ place → rows_moved_on rows place ≡ rows
-moved_nowhere [] place past = refl
+pub moved_nowhere : (rows : List AnswerRow) (index : ℕ) → length rows ≤ index → rows_moved_on rows index ≡ rows
+moved_nowhere [] index past = refl
 moved_nowhere (row ∷ rows) zero past = absurd (omega arith)
-moved_nowhere (row ∷ rows) (suc place) past =
-    let rest = moved_nowhere rows place (omega arith) in
-    elim (slice_get rows place) as (λ o. with_moved_on rows place o ≡ rows → with_moved_on (row ∷ rows) (suc place) o ≡ row ∷ rows) [
+moved_nowhere (row ∷ rows) (suc index) past =
+    let rest = moved_nowhere rows index (omega arith) in
+    elim (slice_get rows index) as (λ o. with_moved_on rows index o ≡ rows → with_moved_on (row ∷ rows) (suc index) o ≡ row ∷ rows) [
       | None ↦ λ e. refl
       | Some moved ↦ λ e. ap (λ ys. row ∷ ys) e
     ] rest

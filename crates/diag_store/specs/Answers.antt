@@ -66,9 +66,9 @@ applies access p row =
     fits row.pattern row.more p && (row.session == 0 || row.session == access.session)
     && (row.level == 0 || option_is access.unlocked row.level)
 
--- the place of the first that does, and the row at it
-abbrev pub place_for : List AnswerRow → Access → List ℕ → Option ℕ
-place_for rows access p = position (applies access p) rows
+-- the index of the first that does, and the row at it
+abbrev pub index_for : List AnswerRow → Access → List ℕ → Option ℕ
+index_for rows access p = position (applies access p) rows
 
 abbrev pub row_for : List AnswerRow → Access → List ℕ → Option AnswerRow
 row_for rows access p = find (applies access p) rows
@@ -90,10 +90,10 @@ any_late rows = list_any is_late rows
 abbrev pub moved_on : AnswerRow → AnswerRow
 moved_on row = record row { next = next_after row }
 
--- the rows once the one at this place has answered
+-- the rows once the one at this index has answered
 abbrev pub with_moved_on : List AnswerRow → ℕ → Option AnswerRow → List AnswerRow
-with_moved_on rows place None = rows
-with_moved_on rows place (Some row) = slice_set rows place (moved_on row)
+with_moved_on rows index None = rows
+with_moved_on rows index (Some row) = slice_set rows index (moved_on row)
 
 abbrev pub rows_moved_on : List AnswerRow → ℕ → List AnswerRow
-rows_moved_on rows place = with_moved_on rows place (slice_get rows place)
+rows_moved_on rows index = with_moved_on rows index (slice_get rows index)

@@ -2,7 +2,7 @@
 use Rattle.std.specs.Prelude.{List, map, None, option_map, replicate}
 use Rattle.diag_setup.specs.declared.raw.RawSetup.{RawSetup}
 use Rattle.diag_setup.specs.declared.raw.RawDid.{RawDid}
-use Rattle.diag_setup.specs.declared.raw.RawCode.{RawCode}
+use Rattle.diag_setup.specs.declared.raw.RawDtc.{RawDtc}
 use Rattle.diag_setup.specs.declared.raw.RawRoutine.{RawRoutine}
 use Rattle.diag_setup.specs.declared.raw.RawKeyRow.{RawKeyRow}
 use Rattle.diag_setup.specs.declared.raw.RawLevel.{RawLevel}
@@ -27,7 +27,7 @@ did_row did = record {
 abbrev pub opening_dids : RawSetup → List DidRow
 opening_dids setup = map did_row setup.dids
 
-abbrev pub dtc_row : RawCode → Dtc
+abbrev pub dtc_row : RawDtc → Dtc
 dtc_row row = record { code = row.code; status = row.status }
 
 abbrev pub opening_codes : RawSetup → List Dtc

@@ -4,7 +4,7 @@
 ghost use Rattle.std.specs.Prelude.{◌≡◌, ◌≤◌, ◌<◌, ◌+◌, ◌↔◌, IfOk, IsTrue, [], length, map, option_map, option_copied, position, slice_get};
 ghost use Rattle.std.specs.List.{All};
 ghost use Rattle.diag_setup.specs.Fits.{AnswerFits};
-ghost use Rattle.diag_store.specs.Answers.{is_of, any_late, fits, row_first, filled_item, filled, template_now, has_reply, applies, place_for, row_for, next_after, rows_moved_on};
+ghost use Rattle.diag_store.specs.Answers.{is_of, any_late, fits, row_first, filled_item, filled, template_now, has_reply, applies, index_for, row_for, next_after, rows_moved_on};
 ghost use Rattle.diag_store.specs.Opening.{answer_row, opening_answers};
 
 use diag_setup::{Items, PatternItem, RawAnswer, Setup, TemplateItem};
@@ -173,33 +173,33 @@ impl Answers {
         self.delays
     }
 
-    /// The first row that applies to a request of a tester that has access to so much, behind its place.
+    /// The first row that applies to a request of a tester that has access to so much, behind its index.
     ///
     /// It costs one look at the first byte of each row, and one at each row that this byte fits, up to that row.
     pub fn row_for(&self, access: Access, p: &[u8]) -> Option<(u16, &AnswerRow)>
         requires { 1 ≤ length p.now }
-        ensures place { option_map (λ found. found.0) result ≡ place_for self.now access p.now }
+        ensures index { option_map (λ found. found.0) result ≡ index_for self.now access p.now }
         ensures row { option_map (λ found. found.1.now) result ≡ row_for self.now access p.now }
     {
         let rows = self.rows.as_slice();
-        match place_in(&self.firsts, rows, access, p) {
-            Some(place) => Some((place as u16, &rows[place])),
+        match index_in(&self.firsts, rows, access, p) {
+            Some(index) => Some((index as u16, &rows[index])),
             None => None,
         }
     }
 
-    /// The row at a place.
-    pub fn row(&self, place: u16) -> Option<&AnswerRow>
-        ensures { option_copied result ≡ slice_get self.now place }
+    /// The row at an index.
+    pub fn row(&self, index: u16) -> Option<&AnswerRow>
+        ensures { option_copied result ≡ slice_get self.now index }
     {
-        self.rows.get(place as usize)
+        self.rows.get(index as usize)
     }
 
-    /// The next template of the row at a place moves on, after the last to the first.
-    pub fn move_on(&mut self, place: u16)
-        ensures { self.new ≡ rows_moved_on self.old place }
+    /// The next template of the row at an index moves on, after the last to the first.
+    pub fn move_on(&mut self, index: u16)
+        ensures { self.new ≡ rows_moved_on self.old index }
     {
-        move_on(&mut self.rows, place as usize);
+        move_on(&mut self.rows, index as usize);
     }
 }
 
@@ -209,28 +209,28 @@ fn any_late(rows: &[AnswerRow]) -> bool
     rows.iter().any(|row| row.after_ms > 0)
 }
 
-/// The place of the first row that applies.
-fn place_in(firsts: &[PatternItem], rows: &[AnswerRow], access: Access, p: &[u8]) -> Option<usize>
+/// The index of the first row that applies.
+fn index_in(firsts: &[PatternItem], rows: &[AnswerRow], access: Access, p: &[u8]) -> Option<usize>
     requires some { 1 ≤ length p.now }
     requires firsts { firsts.now ≡ map row_first rows.now }
     ensures { result ≡ position (applies access p.now) rows.now }
 {
-    for (place, first) in firsts.iter().enumerate() {
+    for (index, first) in firsts.iter().enumerate() {
         if !is_of(*first, p[0]) {
             continue;
         }
-        if rows[place].applies(access, p) {
-            return Some(place);
+        if rows[index].applies(access, p) {
+            return Some(index);
         }
     }
     None
 }
 
-fn move_on(rows: &mut [AnswerRow], place: usize)
-    ensures { rows.new ≡ rows_moved_on rows.old place }
+fn move_on(rows: &mut [AnswerRow], index: usize)
+    ensures { rows.new ≡ rows_moved_on rows.old index }
 {
-    if place < rows.len() {
-        let row = &mut rows[place];
+    if index < rows.len() {
+        let row = &mut rows[index];
         row.next = row.template_after();
     }
 }
@@ -374,8 +374,8 @@ pub fn fits(items: &[PatternItem], more: bool, p: &[u8]) -> bool
     if p.len() < items.len() {
         return false;
     }
-    for (place, item) in items.iter().enumerate() {
-        if !is_of(*item, p[place]) {
+    for (index, item) in items.iter().enumerate() {
+        if !is_of(*item, p[index]) {
             return false;
         }
     }

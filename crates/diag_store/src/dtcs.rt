@@ -7,7 +7,7 @@ ghost use Rattle.diag_store.specs.Dtcs.{code_of, status_of, with_status, set_sta
 ghost use Rattle.diag_store.specs.Opening.{opening_codes, dtc_row};
 
 use crate::search::{find_place, find_row};
-use diag_setup::{Keyed, RawCode, Setup};
+use diag_setup::{Keyed, RawDtc, Setup};
 use std::alloc::{AllocError, Global};
 use std::marker::Model;
 
@@ -50,7 +50,7 @@ impl Model for DtcMemory {
         (length d.rows.items ≤ 4096) × (is_rising code_of d.rows.items ≡ true) };
 }
 
-/// groupOfDTC of all codes (ISO 14229-1:2013, D.1).
+/// groupOfDTC of all DTCs (ISO 14229-1:2013, D.1).
 pub const ALL_GROUPS: u32 = 0xFF_FFFF;
 
 /// statusOfDTC after clearing: bits 4 and 6, testNotCompletedSinceLastClear and testNotCompletedThisOperationCycle
@@ -58,7 +58,7 @@ pub const ALL_GROUPS: u32 = 0xFF_FFFF;
 const CLEARED_STATUS: u8 = 0x50;
 
 impl DtcMemory {
-    /// The codes with their status at the opening, where memory isn't refused.
+    /// The DTCs with their status at the opening, where memory isn't refused.
     pub fn new(alloc: Global, setup: &Setup) -> Result<DtcMemory, AllocError>
         ensures { IfOk result (λ dtcs. dtcs ≡ opening_codes setup.now) }
     {
@@ -70,7 +70,7 @@ impl DtcMemory {
         Ok(DtcMemory { rows })
     }
 
-    /// Another memory with the same codes, where memory isn't refused.
+    /// Another memory with the same DTCs, where memory isn't refused.
     pub fn try_copy(&self) -> Result<DtcMemory, AllocError>
         ensures { IfOk result (λ copy. copy ≡ self.now) }
     {
@@ -78,7 +78,7 @@ impl DtcMemory {
         Ok(DtcMemory { rows })
     }
 
-    /// How many codes there are; they stand in rising order, each once.
+    /// How many DTCs there are; they stand in rising order, each once.
     pub fn len(&self) -> usize
         ensures same { result ≡ length self.now }
         ensures fits { result ≤ 4096 }
@@ -87,7 +87,7 @@ impl DtcMemory {
         self.rows.len()
     }
 
-    /// A code with its status, by its place in rising order.
+    /// A DTC with its status, by its place in rising order.
     pub fn at(&self, i: usize) -> Option<(u32, u8)>
         ensures { result ≡ option_map row_pair (slice_get self.now i) }
     {
@@ -95,7 +95,7 @@ impl DtcMemory {
         Some((row.code, row.status))
     }
 
-    /// The status of a code.
+    /// The status of a DTC.
     pub fn status(&self, code: u32) -> Option<u8>
         ensures { result ≡ status_of self.now code }
     {
@@ -103,7 +103,7 @@ impl DtcMemory {
         Some(row.status)
     }
 
-    /// Gives a code another status; whether the code is known.
+    /// Gives a DTC another status; whether the DTC is known.
     #[tactic(auto, using(crate::proofs::TableLemmas::with_status_unknown))]
     pub fn set(&mut self, code: u32, status: u8) -> bool
         ensures answer { result ≡ is_some (status_of self.old code) }
@@ -115,7 +115,7 @@ impl DtcMemory {
         known
     }
 
-    /// Clears a code, or all codes; whether the group is known.
+    /// Clears a DTC, or all DTCs; whether the group is known.
     pub fn clear(&mut self, group: u32) -> bool
         ensures answer { result ≡ is_known_group self.old group }
         ensures state { self.new ≡ cleared self.old group }
@@ -128,7 +128,7 @@ impl DtcMemory {
         self.set(group, CLEARED_STATUS)
     }
 
-    /// How many codes have a bit of the mask.
+    /// How many DTCs have a bit of the mask.
     pub fn count(&self, mask: u8) -> u16
         ensures { result ≡ length (matching self.now mask) }
     {
@@ -136,7 +136,7 @@ impl DtcMemory {
     }
 }
 
-/// Puts a status in the row of a code, if there is one.
+/// Puts a status in the row of a DTC, if there is one.
 #[tactic(auto, using(crate::proofs::RowLemmas::change_at))]
 fn put_status(rows: &mut [Dtc], code: u32, status: u8)
     requires { is_rising code_of rows.old ≡ true }
@@ -162,7 +162,7 @@ fn count_matching(rows: &[Dtc], mask: u8) -> u16
     rows.iter().filter(|row| row.status & mask != 0).count() as u16
 }
 
-pub(crate) fn dtc_row(row: &RawCode) -> Dtc
+pub(crate) fn dtc_row(row: &RawDtc) -> Dtc
     requires { row.now.status ≤ 0xFF }
     ensures { result ≡ dtc_row row.now }
 {

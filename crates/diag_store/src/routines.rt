@@ -10,7 +10,7 @@ use crate::bytes::bytes_of;
 use crate::dtcs::{Dtc, DtcMemory, dtc_row};
 use crate::search::{find_place, find_row};
 use arrayvec::ArrayVec;
-use diag_setup::{Keyed, RawCode, RawRoutine, Setup};
+use diag_setup::{Keyed, RawDtc, RawRoutine, Setup};
 use std::alloc::{AllocError, Global};
 use std::marker::Model;
 
@@ -36,7 +36,7 @@ pub struct Routine {
     pub result: ArrayVec<u8, 32>,
     /// The odd sub-function of the level that it needs; 0 is open.
     pub level: u8,
-    /// The code that it gives a status when it is done.
+    /// The DTC that it gives a status when it is done.
     pub on_done: Option<Dtc>,
     /// What it does now.
     pub state: RoutineState,
@@ -135,7 +135,7 @@ impl Routines {
         make_idle(&mut self.rows, id);
     }
 
-    /// One tick of the running routines; with the setting, those that end report their codes.
+    /// One tick of the running routines; with the DTC setting on, those that end set the status of their DTCs.
     pub fn tick(&mut self, dtcs: &mut DtcMemory, setting: bool)
         ensures rows { self.new ≡ rows_after_tick self.old }
         ensures dtcs { dtcs.new
@@ -277,7 +277,7 @@ fn pass_all(rows: &mut [Routine], count: u32)
     }
 }
 
-/// Sets the codes of the routines that end at this tick, in order.
+/// Sets the DTCs of the routines that end at this tick, in order.
 fn report(rows: &[Routine], dtcs: &mut DtcMemory)
     ensures { dtcs.new ≡ codes_after_tick rows.now dtcs.old }
 {
@@ -310,7 +310,7 @@ fn routine_row(routine: &RawRoutine) -> Routine
     }
 }
 
-fn on_done_row(on_done: &Option<RawCode>) -> Option<Dtc>
+fn on_done_row(on_done: &Option<RawDtc>) -> Option<Dtc>
     requires { OnDoneFits on_done.now }
     ensures { result ≡ option_map dtc_row on_done.now }
 {

@@ -55,9 +55,9 @@ pub struct SecurityState {
     pub unlocked: Option<u8>,
     /// The seed that waits for its key.
     pub outstanding: Option<Outstanding>,
-    /// The wrong keys of each tester, by its place.
+    /// The wrong keys of each tester, by its index.
     pub wrong_keys: [u8; 8],
-    /// The ticks (milliseconds) that are left of each tester's delay, by its place; 0 is none.
+    /// The ticks (milliseconds) that are left of each tester's delay, by its index; 0 is none.
     pub delays: [u32; 8],
 }
 

@@ -1,18 +1,18 @@
-//! The setup of the stored run as a value, for the suites: two testers, a writable identifier, a code, a routine and a
+//! The setup of the stored run as a value, for the suites: two testers, a writable identifier, a DTC, a routine and a
 //! security level.
 
 ghost use Rattle.std.specs.Prelude.{◌≡◌, IfOk};
 ghost use Rattle.diag_setup.specs.Setup.{sorted};
-ghost use Rattle.diag_setup.specs.ExampleSetup.{key_row, level, routine, code, did, tester, two_testers};
+ghost use Rattle.diag_setup.specs.ExampleSetup.{key_row, level, routine, dtc, did, tester, two_testers};
 
 use diag_setup::{
-    Items, RawCode, RawDid, RawKeyRow, RawLevel, RawRoutine, RawSetup, RawTester, Setup,
+    Items, RawDid, RawDtc, RawKeyRow, RawLevel, RawRoutine, RawSetup, RawTester, Setup,
 };
 use std::alloc::{AllocError, Global};
 
 /// A setup with the testers A (7E0, 7E8) and B (7E1, 7E9).
 ///
-/// The identifier F190 holds `TESTVIN0123456789` and is written at level 1. The code 012345 has the status 2F,
+/// The identifier F190 holds `TESTVIN0123456789` and is written at level 1. The DTC 012345 has the status 2F,
 /// and the routine 0203 gives it again when it is done, after 100 ms, with the result 01. Level 1 has two rows:
 /// the seed 11223344 with the key AABBCCDD, and 55667788 with 01020304. After three wrong keys the delay is 2000 ms.
 pub fn two_testers(alloc: Global) -> Result<Setup, AllocError>
@@ -50,7 +50,7 @@ pub fn raw_two_testers(alloc: Global) -> Result<RawSetup, AllocError>
         delay_ms: 2000,
         testers: rows(alloc, testers)?,
         dids: rows(alloc, [did(alloc)?])?,
-        dtcs: rows(alloc, [code()])?,
+        dtcs: rows(alloc, [dtc()])?,
         routines: rows(alloc, [routine(alloc)?])?,
         levels: rows(alloc, [level(alloc)?])?,
         answers: Items::new(alloc),
@@ -84,10 +84,10 @@ fn did(alloc: Global) -> Result<RawDid, AllocError>
     })
 }
 
-fn code() -> RawCode
-    ensures { result ≡ code }
+fn dtc() -> RawDtc
+    ensures { result ≡ dtc }
 {
-    RawCode {
+    RawDtc {
         code: 0x01_2345,
         status: 0x2F,
     }
@@ -101,7 +101,7 @@ fn routine(alloc: Global) -> Result<RawRoutine, AllocError>
         time_ms: 100,
         result: bytes(alloc, &[0x01])?,
         level: 0,
-        on_done: Some(code()),
+        on_done: Some(dtc()),
     })
 }
 

@@ -1,4 +1,4 @@
--- A recording of no frames: by each tester's place.
+-- A recording of no frames: by each tester's number.
 use Rattle.std.proofs.Common.{◌≡◌, ◌≢◌, ◌≤◌, ◌<◌, ◌⊎◌, ℕ, zero, suc, ◌+◌, Bool, true, false, List, [], ◌∷◌, length, inl, inr, refl, sym, ap, subst, ◌∙◌, arith}
 use Rattle.std.proofs.lemmas.Bool.{true≢false}
 use Rattle.std.proofs.lemmas.Bool.Decides.{nat_tests}
@@ -7,7 +7,7 @@ use Rattle.std.specs.List.{list_all}
 use Rattle.std.specs.Prelude.{◌&&◌, ◌==◌, nat_lt}
 use Rattle.diag_pdu.specs.Cut.{counted_from}
 use Rattle.diag_setup.specs.declared.raw.RawSetup.{RawSetup}
-use Rattle.diag_bus.specs.Verdict.{IsPlace, recorded}
+use Rattle.diag_bus.specs.Verdict.{IsNumber, recorded}
 use Rattle.diag_bus.specs.declared.verdict.Recorded.{Recorded}
 use Rattle.diag_world.proofs.Waiting.{counted_more}
 use Rattle.std.proofs.lemmas.List.Folds.{list_all-append}
@@ -72,13 +72,13 @@ module _ (test : ℕ → Bool) where
 
 module _ (setup : RawSetup) (lines : List (List ℕ)) where
   -- nothing is compared, so no tester has a frame
-  pub none_has : compares_nothing setup lines ≡ true → (t : ℕ) → IsPlace setup t → recorded setup lines t ≡ []
-  none_has nothing t place =
-      let tested = each_passes (has_none setup lines) 1 (length setup.testers) t place.0 (omega (arith, place.1)) nothing in
+  pub none_has : compares_nothing setup lines ≡ true → (t : ℕ) → IsNumber setup t → recorded setup lines t ≡ []
+  none_has nothing t number =
+      let tested = each_passes (has_none setup lines) 1 (length setup.testers) t number.0 (omega (arith, number.1)) nothing in
       nil_from_length (recorded setup lines t) (grind (arith, nat_tests, tested))
 
   -- something is compared, so some tester has one
-  pub some_has : compares_nothing setup lines ≡ false → (t : ℕ) × IsPlace setup t × (recorded setup lines t ≢ [])
+  pub some_has : compares_nothing setup lines ≡ false → (t : ℕ) × IsNumber setup t × (recorded setup lines t ≢ [])
   some_has something =
       let one = some_fails (has_none setup lines) 1 (length setup.testers) something in
       (one.0, (one.1, omega (arith, one.2)), λ none. true≢false (sym (ap (λ (r : List Recorded). length r == 0) none) ∙ one.3))

@@ -2,7 +2,7 @@
 use Rattle.std.proofs.Common.{drop, ◌≡◌, ℕ, ◌==◌, false, List, [], ◌∷◌, ◌++◌, length, refl, sym, ap, subst, ◌∙◌, append_assoc, append-nil, arith, length-append}
 use Rattle.std.specs.Prelude.{Result, Ok, Err, OnOk, is_ok, if◌then◌else◌}
 use Rattle.std.proofs.lemmas.List.Elements.{All-append, All-head, All-tail}
-use Rattle.diag_can.specs.Bus.{HasNoFeed}
+use Rattle.diag_can.specs.BusLine.{HasNoFeed}
 use Rattle.diag_can.specs.Log.{is_feed}
 use Rattle.diag_can.specs.Pieces.{TakesLines}
 use Rattle.diag_text.specs.Taking.{LinesTaken}

@@ -2,14 +2,14 @@
 use Rattle.std.specs.Prelude.{ℕ, ◌==◌, codes, Bool, true, false, if◌then◌else◌, List, [], ◌++◌, length}
 use Rattle.std.specs.List.{list_all}
 use Rattle.diag_setup.specs.declared.raw.RawSetup.{RawSetup}
-use Rattle.diag_bus.specs.Verdict.{agreement_text, places, recorded}
+use Rattle.diag_bus.specs.Verdict.{agreement_text, numbers, recorded}
 
 abbrev pub has_none : RawSetup → List (List ℕ) → ℕ → Bool
 has_none setup lines t = length (recorded setup lines t) == 0
 
 -- of no tester the recording has a frame that is compared
 abbrev pub compares_nothing : RawSetup → List (List ℕ) → Bool
-compares_nothing setup lines = list_all (has_none setup lines) (places setup)
+compares_nothing setup lines = list_all (has_none setup lines) (numbers setup)
 
 -- the line that says so
 abbrev pub nothing_line : List ℕ

@@ -47,7 +47,7 @@ abbrev pub config_text : ConfigFault → List ℕ
 config_text config.Memory = codes "memory"
 config_text fault = codes "config: " ++ config_fault_text fault
 
--- a tester is told by its place from 1
+-- a tester is told by its number from 1
 abbrev pub log_text : ℕ → LogFault → List ℕ
 log_text who (log.Line n fault) = codes "log " ++ decimal who ++ codes " line " ++ decimal n
     ++ codes ": " ++ line_fault_text fault

@@ -30,7 +30,7 @@ abbrev pub journal_part : Timing → List Entry → List ℕ
 journal_part Lines entries = journal_text entries
 journal_part Stamps entries = journal_text_at entries
 
--- the holder's name; its place, where the setup has no such tester
+-- the holder's name; its number, where the setup has no such tester
 abbrev pub holder_name : RawSetup → ℕ → List ℕ
 holder_name setup who =
     if nat_le who (length setup.testers) then name_of setup who else (48 + who) ∷ []

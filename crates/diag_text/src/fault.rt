@@ -134,7 +134,7 @@ impl fmt::Display for RunFault {
             },
             RunFault::ConfigLong => write!(f, "config: too long"),
             RunFault::Log(who, fault) => {
-                let tester = who.place();
+                let tester = who.number();
                 match fault {
                     LogFault::Line(n, fault) => write!(f, "log {tester} line {n}: {fault}"),
                     LogFault::TooManyLines => write!(f, "log {tester}: too many lines"),
@@ -147,7 +147,7 @@ impl fmt::Display for RunFault {
             RunFault::Memory => write!(f, "memory"),
             RunFault::JournalFull => write!(f, "journal full"),
             RunFault::RecordsDisagree(who) => {
-                let tester = who.place();
+                let tester = who.number();
                 write!(f, "records of {tester} disagree")
             }
             RunFault::Read(n) => write!(f, "cannot read file {n}"),

@@ -320,14 +320,14 @@ fn add_session(text: &mut Vec<u8>, session: u8) -> Result<(), AllocError>
     }
 }
 
-/// Adds a tester's name; its place, where the setup has no such tester.
+/// Adds a tester's name; its number, where the setup has no such tester.
 fn add_name(text: &mut Vec<u8>, setup: &Setup, who: TesterId) -> Result<(), AllocError>
     ensures { OnOk result (text.new.items ≡ text.old.items ++ holder_name setup.now who) }
 {
-    if usize::from(who.place()) <= setup.testers() {
+    if usize::from(who.number()) <= setup.testers() {
         text.extend_from_slice(setup.name(who))
     } else {
-        text.push(b'0' + who.place())?;
+        text.push(b'0' + who.number())?;
         Ok(())
     }
 }

@@ -112,7 +112,7 @@ pub fn verdict_text(alloc: Global, setup: &Setup, verdict: &Verdict) -> Result<V
 fn name_of(setup: &Setup, who: TesterId) -> &[u8]
     ensures { result.now ≡ name_of setup.now who }
 {
-    if usize::from(who.place()) <= setup.testers() {
+    if usize::from(who.number()) <= setup.testers() {
         setup.name(who)
     } else {
         &[]

@@ -6,15 +6,15 @@ use Rattle.diag_can.specs.Reply.{zero_filled}
 use Rattle.diag_exchange.specs.Agreeing.{marks, waited}
 use Rattle.diag_exchange.specs.declared.happening.Over.{Over}
 use Rattle.diag_exchange.specs.declared.happening.Over.TheVariants.{Exchange, Unasked}
-use Rattle.diag_exchange.specs.declared.happening.Place.{Place}
+use Rattle.diag_exchange.specs.declared.happening.CaptureLine.{CaptureLine}
 
 abbrev pub dash : List ℕ
 dash = codes "-"
 
 -- the line of a request, or of the first frame of a message that no request asked
-abbrev pub place_told : Over → Place
-place_told (Exchange request pendings answer) = request.at
-place_told (Unasked heard) = heard.start.at
+abbrev pub capture_line_told : Over → CaptureLine
+capture_line_told (Exchange request pendings answer) = request.at
+capture_line_told (Unasked heard) = heard.start.at
 
 -- seconds with ten digits and microseconds with six, of a moment in milliseconds
 abbrev pub stamp_text : ℕ → List ℕ
@@ -76,7 +76,7 @@ parted (word ∷ next ∷ words) = word ++ codes " " ++ parted (next ∷ words)
 -- the line of an exchange of a tester of this name, by the bus's time of its line, where it agrees or doesn't
 abbrev pub told_text : List ℕ → ℕ → Bool → Over → List ℕ
 told_text name moment same o = parted (
-    decimal (place_told o).line
+    decimal (capture_line_told o).number
     ∷ stamp_text moment
     ∷ name
     ∷ kind_text o

@@ -3,4 +3,4 @@
 
 mod telling;
 
-pub use telling::{place, tell};
+pub use telling::{capture_line, tell};

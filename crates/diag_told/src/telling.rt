@@ -4,10 +4,10 @@ ghost use Rattle.std.specs.Prelude.{◌≡◌, ◌<◌, ◌≤◌, ◌+◌, ◌/
 ghost use Rattle.hex.specs.Hex.{encode_upper};
 ghost use Rattle.diag_can.specs.Reply.{zero_filled};
 ghost use Rattle.diag_exchange.specs.Agreeing.{marks, waited};
-ghost use Rattle.diag_told.specs.Told.{byte_text, bytes_text, expected_text, kind_text, message_text, pendings_told, place_told, reply_text, request_text, sent_text, stamp_text, time_text, told_text};
+ghost use Rattle.diag_told.specs.Told.{byte_text, bytes_text, capture_line_told, expected_text, kind_text, message_text, pendings_told, reply_text, request_text, sent_text, stamp_text, time_text, told_text};
 
 use diag_can::{add_bytes, add_hex, decimal_pair, write_hex};
-use diag_exchange::{Expected, Over, Place};
+use diag_exchange::{CaptureLine, Expected, Over};
 use diag_pdu::Message;
 use itoa::Buffer;
 use std::alloc::AllocError;
@@ -43,7 +43,7 @@ pub fn tell(
 
 /// Adds line, stamp, tester, kind, request and what the unit sent, each before a space. It makes room for all of them once.
 fn add_front(text: &mut Vec<u8>, name: &[u8], moment: u64, over: &Over) -> Result<(), AllocError>
-    ensures { OnOk result (text.new.items ≡ text.old.items ++ (decimal (place_told over.now).line ++ codes " "
+    ensures { OnOk result (text.new.items ≡ text.old.items ++ (decimal (capture_line_told over.now).number ++ codes " "
         ++ stamp_text moment ++ codes " " ++ name.now ++ codes " " ++ kind_text over.now ++ codes " "
         ++ request_text over.now ++ codes " " ++ sent_text over.now ++ codes " ")) }
 {
@@ -57,7 +57,13 @@ fn add_front(text: &mut Vec<u8>, name: &[u8], moment: u64, over: &Over) -> Resul
     let alloc = *text.allocator();
     // (in a variable of its own, so that the text's place and length stay in registers)
     let mut line = mem::replace(text, Vec::new(alloc));
-    add_head(&mut line, name, moment, place(over).line, kind(over));
+    add_head(
+        &mut line,
+        name,
+        moment,
+        capture_line(over).number,
+        kind(over),
+    );
     add_message(&mut line, request);
     line.push_reserved(b' ');
     add_message(&mut line, sent);
@@ -112,8 +118,8 @@ fn add_time(text: &mut Vec<u8>, waited: Option<u64>)
 }
 
 /// The line that an exchange is told by: the request's, or that of the first frame of a message that none asked.
-pub fn place(over: &Over) -> Place
-    ensures { result ≡ place_told over.now }
+pub fn capture_line(over: &Over) -> CaptureLine
+    ensures { result ≡ capture_line_told over.now }
 {
     match over {
         Over::Exchange { request, .. } => request.at,

@@ -10,7 +10,7 @@ use Rattle.diag_tp.specs.declared.sent.Sent.{Sent}
 use Rattle.diag_sides.specs.declared.sending.Phase.{Phase}
 use Rattle.diag_tp.specs.Moments.{moments}
 use Rattle.diag_tp.specs.Wire.{Placed}
-use Rattle.diag_sides.specs.Receiver.{Partial, one_tick_later, ticks_later}
+use Rattle.diag_sides.specs.Receiver.{Receiving, one_tick_later, ticks_later}
 use Rattle.diag_sides.specs.declared.sending.Sending.{Sending as Current}
 use Rattle.diag_sides.specs.Sender.{SenderState, kept_as, in_phase, once_gone, one_on, started, settled_in, tick_fields, ticked_fields}
 use Rattle.diag_tp.specs.Kept.{sender_ticks}
@@ -22,10 +22,10 @@ use Rattle.diag_tp.proofs.Moments.{moments-sum}
 use Rattle.diag_tp.proofs.History.{drained_parts, stands_more, stands_moments}
 
 -- ticks before the end of a reception, and one tick more
-pub reception_still : (n_cr n : ℕ) (o : Option Partial) → n < reception_quiet n_cr o → option_and_then (ticks_later n_cr n) o ≡ reception_later n o
+pub reception_still : (n_cr n : ℕ) (o : Option Receiving) → n < reception_quiet n_cr o → option_and_then (ticks_later n_cr n) o ≡ reception_later n o
 reception_still n_cr n o few = grind (arith, nat_tests)
 
-reception-more : (n_cr n : ℕ) (o : Option Partial)
+reception-more : (n_cr n : ℕ) (o : Option Receiving)
     → option_and_then (ticks_later n_cr (suc n)) o ≡ option_and_then (one_tick_later n_cr) (reception_later n o)
 reception-more n_cr n o = grind arith
 
@@ -64,7 +64,7 @@ unfolding pending quiet
 quiet_drained link none = rw none refl
 
 -- no ticks
-pub reception_none : (o : Option Partial) → reception_later 0 o ≡ o
+pub reception_none : (o : Option Receiving) → reception_later 0 o ≡ o
 reception_none o = grind arith
 
 pub current_none : (o : Option Current) → current_later 0 o ≡ o
@@ -79,7 +79,7 @@ pub quiet_now : (link : LinkState) → pending link ≡ 0 → quiet (quiet_later
 quiet_now link none = rw (quiet_once 0 link none, quiet_drained link none, reception_none link.partial, current_none link.sender.current) refl
 
 -- a link by its fields
-link_with : LinkSetup → ℕ → Option Partial → Option (List ℕ) → SenderState → LinkState
+link_with : LinkSetup → ℕ → Option Receiving → Option (List ℕ) → SenderState → LinkState
 link_with setup now partial grant sender = record { setup = setup; now = now; partial = partial; grant = grant; sender = sender }
 
 pub same_link : (a b : LinkState) → a.setup ≡ b.setup → a.now ≡ b.now → a.partial ≡ b.partial → a.grant ≡ b.grant → a.sender ≡ b.sender → a ≡ b
@@ -130,7 +130,7 @@ stands_ticks s link link' E A Q (suc (suc k)) some h none grant sender partial s
 abbrev IsLeft : ℕ → ℕ → ℕ → Type 0
 IsLeft n q q' = (q ≤ q' + n) × ((m : ℕ) → n + m < always → m < q' → n + m < q)
 
-reception-left : (n_cr n : ℕ) (o : Option Partial) → IsLeft n (reception_quiet n_cr o) (reception_quiet n_cr (reception_later n o))
+reception-left : (n_cr n : ℕ) (o : Option Receiving) → IsLeft n (reception_quiet n_cr o) (reception_quiet n_cr (reception_later n o))
 reception-left n_cr n o = grind arith
 
 current-left : (n : ℕ) (o : Option Current) → IsLeft n (sender_quiet o) (sender_quiet (current_later n o))

@@ -10,7 +10,7 @@ use Rattle.diag_pdu.specs.declared.setup.LinkSetup.{LinkSetup}
 use Rattle.diag_tp.specs.declared.taken.Taken.{Taken}
 use Rattle.diag_tp.specs.declared.sent.Sent.{Sent}
 use Rattle.diag_sides.specs.declared.sending.Sending.{Sending}
-use Rattle.diag_sides.specs.Receiver.{Partial, if_open, if_complete, completed_by, block_answer}
+use Rattle.diag_sides.specs.Receiver.{Receiving, if_open, if_complete, completed_by, block_answer}
 use Rattle.diag_tp.specs.Kept.{sender_event}
 use Rattle.diag_sides.specs.Sender.{frame_count, current_left}
 use Rattle.diag_tp.specs.State.{LinkState}
@@ -22,12 +22,12 @@ use Rattle.diag_tp.proofs.History.{stands_fed}
 use Rattle.diag_tp.proofs.Views.{Numbers, within_numbers, grant_few}
 
 -- what completes a message ends the reception, and grants nothing
-last-ends : (s : LinkSetup) (o : Option Partial) → IsTrue (is_some (if_complete o)) → (if_open o ≡ None) × (block_answer s o ≡ None)
+last-ends : (s : LinkSetup) (o : Option Receiving) → IsTrue (is_some (if_complete o)) → (if_open o ≡ None) × (block_answer s o ≡ None)
 last-ends s o h = grind (arith, nat_tests)
 
 -- a frame that completes nothing is left as its kind
-pub taken_read : (o : Option Partial) (k : Kind) → completed_by o k ≡ None → left_of_kind o k ≡ OfKind k
-taken_read o k none = grind arith
+pub taken_other : (o : Option Receiving) (k : Kind) → completed_by o k ≡ None → left_of_kind o k ≡ OfKind k
+taken_other o k none = grind arith
 
 -- a Single's payload stands behind the frame's first byte
 abbrev Stands : List ℕ → List ℕ → Type 0
@@ -70,20 +70,20 @@ pub payload_same : (bytes payload : List ℕ) (max : ℕ) → kind bytes max ≡
 payload_same bytes payload max h = (payload-stands bytes payload max h).1
 
 -- what is left of an event does what the event does
-record Does (s : LinkSetup) (o : Option Partial) (l : Left) (e : Event) (current : Option Sending) (W : List (List ℕ)) : Type 0 where
+record Does (s : LinkSetup) (o : Option Receiving) (l : Left) (e : Event) (current : Option Sending) (W : List (List ℕ)) : Type 0 where
   reception : reception_after o l ≡ partial_after s o e
   granted : granted_after s o l ≡ grant_after s o e
   sender : sender_after s l current W ≡ sender_event s e current W
 
-frame-does : (s : LinkSetup) (o : Option Partial) (bytes : List ℕ) (k : Kind) (current : Option Sending) (W : List (List ℕ)) → kind bytes s.max_request ≡ k
+frame-does : (s : LinkSetup) (o : Option Receiving) (bytes : List ℕ) (k : Kind) (current : Option Sending) (W : List (List ℕ)) → kind bytes s.max_request ≡ k
     → Does s o (left_of_kind o k) (Physical bytes) current W
 frame-does s o bytes k current W e = grind (arith, last-ends)
 
-functional-does : (s : LinkSetup) (o : Option Partial) (bytes : List ℕ) (single : Bool) (current : Option Sending) (W : List (List ℕ))
+functional-does : (s : LinkSetup) (o : Option Receiving) (bytes : List ℕ) (single : Bool) (current : Option Sending) (W : List (List ℕ))
     → Does s o (if single then OfFunctional else OfIgnored) (Functional bytes) current W
 functional-does s o bytes single current W = grind arith
 
-does : (s : LinkSetup) (o : Option Partial) (e : Event) (current : Option Sending) (W : List (List ℕ)) → IsTrue (is_frame e)
+does : (s : LinkSetup) (o : Option Receiving) (e : Event) (current : Option Sending) (W : List (List ℕ)) → IsTrue (is_frame e)
     → Does s o (left_of s o e) e current W
 does s o (Physical bytes) current W h = frame-does s o bytes (kind bytes s.max_request) current W refl
 does s o (Functional bytes) current W h = functional-does s o bytes (is_some (completed_by None (single_only (kind bytes s.max_request)))) current W

@@ -23,12 +23,12 @@ abbrev pub no_flow : Option Sending → List (List ℕ) → SenderState
 no_flow current W = kept_as current W
 
 abbrev pub sender_frame : LinkSetup → Kind → Option Sending → List (List ℕ) → SenderState
-sender_frame s (FlowControl status block st) current W =
-    sender_flow s (flow_decision status block st) current W
+sender_frame s (FlowControl flow_status block_size st_min) current W =
+    sender_flow s (flow_decision flow_status block_size st_min) current W
 sender_frame s (Single payload) current W = no_flow current W
 sender_frame s (First len head) current W = no_flow current W
 sender_frame s Overflow current W = no_flow current W
-sender_frame s (Consecutive number part) current W = no_flow current W
+sender_frame s (Consecutive sequence_number part) current W = no_flow current W
 sender_frame s Ignored current W = no_flow current W
 
 -- a moment, of which the sender sees the physical Flows and the tick: a history has ticks one by one

@@ -8,7 +8,7 @@ use Rattle.diag_pdu.specs.declared.step.Request.{Request}
 use Rattle.diag_tp.specs.declared.taken.Taken.{Taken}
 use Rattle.diag_tp.specs.declared.taken.Taken.TheVariants as left
 use Rattle.diag_sides.specs.declared.sending.Sending.{Sending}
-use Rattle.diag_sides.specs.Receiver.{Partial, open_after, completed_by, granted_by}
+use Rattle.diag_sides.specs.Receiver.{Receiving, open_after, completed_by, granted_by}
 use Rattle.diag_sides.specs.Sender.{SenderState}
 use Rattle.diag_tp.specs.Kept.{no_flow, sender_frame}
 use Rattle.diag_tp.specs.State.{LinkState, LinkView}
@@ -27,22 +27,22 @@ left_in left.Functional = OfFunctional
 left_in left.Ignored = OfIgnored
 left_in left.Single = OfSingle
 left_in left.Last = OfLast
-left_in (left.Read pci) = OfKind (says pci)
+left_in (left.Other pci) = OfKind (says pci)
 
 -- of a Single nothing is left but that it ends a reception, and of the last Consecutive of a message the same
-abbrev pub left_of_kind : Option Partial → Kind → Left
+abbrev pub left_of_kind : Option Receiving → Kind → Left
 left_of_kind o (Single payload) = OfSingle
 left_of_kind o (First len head) = OfKind (First len head)
 left_of_kind o Overflow = OfKind Overflow
-left_of_kind o (Consecutive number part) =
-    if is_some (completed_by o (Consecutive number part))
+left_of_kind o (Consecutive sequence_number part) =
+    if is_some (completed_by o (Consecutive sequence_number part))
     then OfLast
-    else OfKind (Consecutive number part)
-left_of_kind o (FlowControl status block gap) = OfKind (FlowControl status block gap)
+    else OfKind (Consecutive sequence_number part)
+left_of_kind o (FlowControl flow_status block_size st_min) = OfKind (FlowControl flow_status block_size st_min)
 left_of_kind o Ignored = OfKind Ignored
 
 -- what is left of an event, where this reception is open; a functional frame changes nothing
-abbrev pub left_of : LinkSetup → Option Partial → Event → Left
+abbrev pub left_of : LinkSetup → Option Receiving → Event → Left
 left_of s o (Physical bytes) = left_of_kind o (kind bytes s.max_request)
 left_of s o (Functional bytes) =
     if is_some (completed_by None (single_only (kind bytes s.max_request)))
@@ -62,7 +62,7 @@ FitsIn view left.Functional = Unit {0}
 FitsIn view left.Ignored = Unit {0}
 FitsIn view left.Single = Unit {0}
 FitsIn view left.Last = Unit {0}
-FitsIn view (left.Read pci) =
+FitsIn view (left.Other pci) =
     IsRead view.state.setup.max_request (says pci) × (needed_for (says pci) ≤ view.room)
 
 -- the request that the frame completes: noted by the link, or staged
@@ -71,17 +71,17 @@ asked_in view left.Functional = Some view.noted
 asked_in view left.Ignored = None
 asked_in view left.Single = Some view.noted
 asked_in view left.Last = view.staged
-asked_in view (left.Read pci) = None
+asked_in view (left.Other pci) = None
 
 -- what it does to the reception, to the flow control that is due, and to the sender
-abbrev pub reception_after : Option Partial → Left → Option Partial
+abbrev pub reception_after : Option Receiving → Left → Option Receiving
 reception_after o OfFunctional = o
 reception_after o OfIgnored = o
 reception_after o OfSingle = None
 reception_after o OfLast = None
 reception_after o (OfKind k) = open_after o k
 
-abbrev pub granted_after : LinkSetup → Option Partial → Left → Option (List ℕ)
+abbrev pub granted_after : LinkSetup → Option Receiving → Left → Option (List ℕ)
 granted_after s o OfFunctional = None
 granted_after s o OfIgnored = None
 granted_after s o OfSingle = None

@@ -137,7 +137,7 @@ impl Link {
     }
 
     /// Makes room for the message of a frame with the tester's own identifier, and notes or stages what it completes.
-    #[tactic(auto, using(crate::proofs::Takings::taken_read))]
+    #[tactic(auto, using(crate::proofs::Takings::taken_other))]
     #[inline(always)]
     fn take_up_own<'f>(&mut self, bytes: &FrameBytes, pci: Pci<'f>) -> Result<Taken<'f>, AllocError>
         requires kind { says pci ≡ kind bytes.now self.old.state.setup.max_request }
@@ -163,7 +163,7 @@ impl Link {
             } if self.receiver.stage(sequence_number, part) => return Ok(Taken::Last),
             _ => {}
         }
-        Ok(Taken::Read(pci))
+        Ok(Taken::Other(pci))
     }
 
     /// Makes room for the message of a frame with the tester's own identifier: a FirstFrame alone needs some.
@@ -212,7 +212,7 @@ impl Link {
                 self.receiver.end();
                 self.grant = None;
             }
-            Taken::Read(pci) => self.take_kind(pci),
+            Taken::Other(pci) => self.take_pci(pci),
         }
     }
 
@@ -238,7 +238,7 @@ impl Link {
             Event::Physical(bytes) => {
                 let pci = self.read(bytes);
                 let message = self.receiver.complete(pci);
-                self.take_kind(pci);
+                self.take_pci(pci);
                 asked(false, message)
             }
             Event::Functional(bytes) => asked(true, single_of(self.read(bytes))),
@@ -248,7 +248,7 @@ impl Link {
 
     /// Takes a frame of this kind with the tester's own identifier, whose message, if any, was handed over.
     #[inline(always)]
-    fn take_kind(&mut self, pci: Pci<'_>)
+    fn take_pci(&mut self, pci: Pci<'_>)
         requires read { IsRead self.old.state.setup.max_request (says pci) }
         requires room { needed_for (says pci) ≤ self.old.room }
         ensures partial { self.new.state.partial

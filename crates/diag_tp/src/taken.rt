@@ -15,5 +15,5 @@ pub enum Taken<'a> {
     /// The ConsecutiveFrame that completes a message, which its link has staged. It ends the reception.
     Last,
     /// Any other frame with the tester's own identifier: what it is.
-    Read(Pci<'a>),
+    Other(Pci<'a>),
 }

@@ -23,7 +23,7 @@ use Rattle.diag_desk.specs.Timed.{Timed, entries_of, timed}
 use Rattle.diag_desk.proofs.TimedLemmas.{own_timed_entries, timed_entries}
 use Rattle.diag_port.specs.declared.pace.Pace.{Pace}
 use Rattle.diag_port.specs.Late.{pace_of}
-use Rattle.diag_port.specs.Placing.{drawn}
+use Rattle.diag_port.specs.Releasing.{drawn}
 use Rattle.diag_world.specs.Headline.{IsPlay}
 use Rattle.diag_world.specs.Weaving.{weave, log_at, AsksItsLog, WeavingLaw}
 use Rattle.diag_gate.specs.Views.{own_in, owns_from}

@@ -10,7 +10,7 @@ use Rattle.diag_desk.specs.Entry.{Kept, most_entries}
 use Rattle.diag_desk.specs.Entries.{asked, asked_by}
 use Rattle.diag_desk.specs.Timed.{Timed, entries_of}
 use Rattle.diag_port.specs.declared.pace.Pace.{Pace}
-use Rattle.diag_port.specs.Placing.{drawn}
+use Rattle.diag_port.specs.Releasing.{drawn}
 use Rattle.diag_world.specs.Channel.{ChannelState, ChannelStands, GoesOn}
 use Rattle.diag_world.specs.Weaving.{all_by}
 

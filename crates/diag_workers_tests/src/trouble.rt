@@ -91,7 +91,7 @@ impl From<PlayFault> for Trouble {
         match fault {
             PlayFault::Memory => Trouble::Memory,
             PlayFault::JournalFull => Trouble::Full,
-            PlayFault::Log(who, fault) => Trouble::Log(who.place(), fault),
+            PlayFault::Log(who, fault) => Trouble::Log(who.number(), fault),
             PlayFault::RecordsDisagree(_) => Trouble::Wrong,
         }
     }

@@ -13,7 +13,7 @@ use Rattle.diag_desk.specs.Entries.{own}
 use Rattle.diag_desk.specs.Entries.{asked, asked_by}
 use Rattle.diag_desk.specs.Timed.{own_timed, timed}
 use Rattle.diag_port.specs.Late.{pace_of}
-use Rattle.diag_port.specs.Placing.{drawn}
+use Rattle.diag_port.specs.Releasing.{drawn}
 use Rattle.diag_desk.specs.Legal.{Legal}
 use Rattle.diag_setup.specs.Setup.{link_of}
 use Rattle.diag_setup.specs.declared.raw.RawSetup.{RawSetup}

@@ -17,9 +17,9 @@ use Rattle.diag_port.specs.Port.{IsAtRest, PortState, port_of, port_quiet, time_
 use Rattle.diag_port.specs.Standing.{entry_of_ticks}
 use Rattle.diag_port.proofs.Quiet.{later_now, passed_later, port_quiet_left, port_rest_left, rest_later, some_quiet, whole_more, whole_none}
 use Rattle.diag_port.proofs.Standing.{ticks_took}
-use Rattle.diag_world.specs.Lazy.{AreLazy, IsLazy, caught_up}
+use Rattle.diag_world.specs.LazyPort.{AreLazy, IsLazy, caught_up}
 use Rattle.diag_world.specs.Server.{AreEarly, TesterTook, TookNothing, ServerView, Waited, closing_time, quiet_of, server_of, state_at}
-use Rattle.diag_world.specs.declared.lazy_link.LazyLink.{LazyLink}
+use Rattle.diag_world.specs.declared.lazy_port.LazyPort.{LazyPort}
 use Rattle.diag_world.proofs.Serving.{server_went}
 use Rattle.diag_world.proofs.Waiting.{quiet_each, waited_more, waited_none}
 use Rattle.diag_world.proofs.Worlds.{map_cases, set_cases}
@@ -27,14 +27,14 @@ use Rattle.diag_world.proofs.Worlds.{map_cases, set_cases}
 -- ---- ticks that pass for a port
 
 -- a port that has caught up, at which nothing is due
-pub caught_still : (passed : ℕ) (lazy : LazyLink) → lazy.taken ≡ passed → IsAtRest lazy.port → passed ≤ lazy.port.link.state.now
+pub caught_still : (passed : ℕ) (lazy : LazyPort) → lazy.taken ≡ passed → IsAtRest lazy.port → passed ≤ lazy.port.link.state.now
     → lazy.port.link.state.now ≤ last_tick → IsLazy passed lazy
 caught_still passed lazy taken rest told fits =
     let some = some_quiet lazy.port rest in
     record { rest = rest; marked = omega (arith, taken); told = omega (arith, taken, told); fits = fits; idle = omega (arith, taken, some) }
 
 -- a port catches up
-pub caught : (passed : ℕ) (lazy new : LazyLink) → passed ≤ last_tick → IsLazy passed lazy → new.port ≡ caught_up passed lazy → new.taken ≡ passed → IsLazy passed new
+pub caught : (passed : ℕ) (lazy new : LazyPort) → passed ≤ last_tick → IsLazy passed lazy → new.port ≡ caught_up passed lazy → new.taken ≡ passed → IsLazy passed new
 caught passed lazy new fits h port taken =
     let n = passed - lazy.taken in
     let rest : IsAtRest new.port = subst IsAtRest (sym port) (rest_later n lazy.port h.rest h.idle) in
@@ -42,18 +42,18 @@ caught passed lazy new fits h port taken =
     caught_still passed new taken rest (omega (arith, clock, h.marked, h.told, fits)) (omega (arith, clock))
 
 -- what it is then, it is at once
-pub seen_caught : (passed : ℕ) (lazy : LazyLink) → lazy.taken ≡ passed → lazy.port.link.state.now ≤ last_tick → caught_up passed lazy ≡ lazy.port
+pub seen_caught : (passed : ℕ) (lazy : LazyPort) → lazy.taken ≡ passed → lazy.port.link.state.now ≤ last_tick → caught_up passed lazy ≡ lazy.port
 seen_caught passed lazy taken told =
     let none : passed - lazy.taken ≡ 0 = omega (arith, taken) in
     rw none (whole_none lazy.port told)
 
 -- ticks pass in which it does nothing
-pub record HasPassed (passed passed' count : ℕ) (lazy : LazyLink) : Type 0 where
+pub record HasPassed (passed passed' count : ℕ) (lazy : LazyPort) : Type 0 where
   pub sum : passed' ≡ passed + count
   pub after : IsLazy passed' lazy
   pub seen : caught_up passed' lazy ≡ whole_later count (caught_up passed lazy)
 
-pub has_passed : (passed passed' count : ℕ) (lazy : LazyLink) → passed' ≡ min (passed + count) last_tick → IsLazy passed lazy → 1 ≤ count → count ≤ 60000
+pub has_passed : (passed passed' count : ℕ) (lazy : LazyPort) → passed' ≡ min (passed + count) last_tick → IsLazy passed lazy → 1 ≤ count → count ≤ 60000
     → count < port_quiet (port_of (caught_up passed lazy)) → (caught_up passed lazy).link.state.now ≤ closing_time → HasPassed passed passed' count lazy
 has_passed passed passed' count lazy is h some most few early =
     let n = passed - lazy.taken in
@@ -151,49 +151,49 @@ rest_all count (port ∷ ports) rest =
     let others = rest_all count ports (λ i p at. rest (suc i) p at) in
     omega (arith, here, others)
 
--- what is seen of lazy links
-abbrev pub seen_links : ℕ → List LazyLink → List Port
-seen_links passed links = map (λ lazy. caught_up passed lazy) links
+-- what is seen of lazy ports
+abbrev pub seen_ports : ℕ → List LazyPort → List Port
+seen_ports passed ports = map (λ lazy. caught_up passed lazy) ports
 
-pub seen_rest : (passed : ℕ) (links : List LazyLink) → AreLazy passed links
-    → (i : ℕ) (port : Port) → slice_get (seen_links passed links) i ≡ Some port → IsAtRest port
-seen_rest passed links h i port at =
-    let t = map_cases (λ lazy. caught_up passed lazy) links i port at in
+pub seen_rest : (passed : ℕ) (ports : List LazyPort) → AreLazy passed ports
+    → (i : ℕ) (port : Port) → slice_get (seen_ports passed ports) i ≡ Some port → IsAtRest port
+seen_rest passed ports h i port at =
+    let t = map_cases (λ lazy. caught_up passed lazy) ports i port at in
     let lazy = h i t.0 t.1 in
     subst IsAtRest (sym t.2) (rest_later (passed - t.0.taken) t.0.port lazy.rest lazy.idle)
 
-pub are_quiet : (passed count : ℕ) (links : List LazyLink) (seen : List Port) → seen_links passed links ≡ seen → AreLazy passed links
-    → count < quiet_of (map port_of seen) → AreEarly (map port_of seen) → AreQuiet count (seen_links passed links)
-are_quiet passed count links seen is h quiet early = record {
-  rest = seen_rest passed links h;
+pub are_quiet : (passed count : ℕ) (ports : List LazyPort) (seen : List Port) → seen_ports passed ports ≡ seen → AreLazy passed ports
+    → count < quiet_of (map port_of seen) → AreEarly (map port_of seen) → AreQuiet count (seen_ports passed ports)
+are_quiet passed count ports seen is h quiet early = record {
+  rest = seen_rest passed ports h;
   quiet = subst (λ ls. count < quiet_of (map port_of ls)) (sym is) quiet;
   early = subst (λ ls. AreEarly (map port_of ls)) (sym is) early;
 }
 
-pub all_passed : (passed passed' count : ℕ) (links : List LazyLink) → passed' ≡ min (passed + count) last_tick → AreLazy passed links → 1 ≤ count → count ≤ 60000
-    → AreQuiet count (seen_links passed links) → (i : ℕ) (lazy : LazyLink) → slice_get links i ≡ Some lazy → HasPassed passed passed' count lazy
-all_passed passed passed' count links is h some most quiet i lazy at =
-    let seen = seen_links passed links in
+pub all_passed : (passed passed' count : ℕ) (ports : List LazyPort) → passed' ≡ min (passed + count) last_tick → AreLazy passed ports → 1 ≤ count → count ≤ 60000
+    → AreQuiet count (seen_ports passed ports) → (i : ℕ) (lazy : LazyPort) → slice_get ports i ≡ Some lazy → HasPassed passed passed' count lazy
+all_passed passed passed' count ports is h some most quiet i lazy at =
+    let seen = seen_ports passed ports in
     let there : slice_get (map port_of seen) i ≡ Some (port_of (caught_up passed lazy)) =
-    slice_get-map port_of seen i ∙ ap (option_map port_of) (slice_get-map (λ l. caught_up passed l) links i ∙ ap (option_map (λ l. caught_up passed l)) at) in
+    slice_get-map port_of seen i ∙ ap (option_map port_of) (slice_get-map (λ l. caught_up passed l) ports i ∙ ap (option_map (λ l. caught_up passed l)) at) in
     has_passed passed passed' count lazy is (h i lazy at) some most
     (quiet_each (map port_of seen) i count (port_of (caught_up passed lazy)) quiet.quiet there) (quiet.early i (port_of (caught_up passed lazy)) there)
 
-pub seen_passed : (passed passed' count : ℕ) (links : List LazyLink)
-    → ((i : ℕ) (lazy : LazyLink) → slice_get links i ≡ Some lazy → HasPassed passed passed' count lazy)
-    → seen_links passed' links ≡ map (λ port. whole_later count port) (seen_links passed links)
+pub seen_passed : (passed passed' count : ℕ) (ports : List LazyPort)
+    → ((i : ℕ) (lazy : LazyPort) → slice_get ports i ≡ Some lazy → HasPassed passed passed' count lazy)
+    → seen_ports passed' ports ≡ map (λ port. whole_later count port) (seen_ports passed ports)
 seen_passed passed passed' count [] h = refl
-seen_passed passed passed' count (lazy ∷ links) h =
-    ap₂ (λ (l : Port) (ls : List Port). l ∷ ls) (h zero lazy refl).seen (seen_passed passed passed' count links (λ i l at. h (suc i) l at))
+seen_passed passed passed' count (lazy ∷ ports) h =
+    ap₂ (λ (l : Port) (ls : List Port). l ∷ ls) (h zero lazy refl).seen (seen_passed passed passed' count ports (λ i l at. h (suc i) l at))
 
 -- a port that has caught up is written in its place
-pub set_seen : (passed i : ℕ) (links : List LazyLink) (lazy : LazyLink) → lazy.taken ≡ passed → lazy.port.link.state.now ≤ last_tick
-    → seen_links passed (slice_set links i lazy) ≡ slice_set (seen_links passed links) i lazy.port
-set_seen passed i links lazy taken told =
-    map-set (λ l. caught_up passed l) links i lazy ∙ ap (λ v. slice_set (seen_links passed links) i v) (seen_caught passed lazy taken told)
+pub set_seen : (passed i : ℕ) (ports : List LazyPort) (lazy : LazyPort) → lazy.taken ≡ passed → lazy.port.link.state.now ≤ last_tick
+    → seen_ports passed (slice_set ports i lazy) ≡ slice_set (seen_ports passed ports) i lazy.port
+set_seen passed i ports lazy taken told =
+    map-set (λ l. caught_up passed l) ports i lazy ∙ ap (λ v. slice_set (seen_ports passed ports) i v) (seen_caught passed lazy taken told)
 
-pub set_lazy : (passed i : ℕ) (links : List LazyLink) (lazy : LazyLink) → AreLazy passed links → IsLazy passed lazy → AreLazy passed (slice_set links i lazy)
-set_lazy passed i links lazy h one = λ j l at. elim (set_cases links i j lazy l at) [
+pub set_lazy : (passed i : ℕ) (ports : List LazyPort) (lazy : LazyPort) → AreLazy passed ports → IsLazy passed lazy → AreLazy passed (slice_set ports i lazy)
+set_lazy passed i ports lazy h one = λ j l at. elim (set_cases ports i j lazy l at) [
   | inl p ↦ subst (λ x. IsLazy passed x) (sym p.1) one
   | inr p ↦ h j l p.1
 ]
@@ -219,18 +219,18 @@ told_after keeps unkept ecu ecu' old new keeper keeper' who e out out' (Err y) t
     (omega (arith, same), omega (arith, same, told))
 
 -- what the server is seen to be then
-pub seen_after : (passed i : ℕ) (links : List LazyLink) (lazy : LazyLink) → lazy.taken ≡ passed → (told : lazy.port.link.state.now ≤ last_tick) (ecu : State)
-    → state_at ecu (seen_links passed (slice_set links i lazy)) ≡ state_at ecu (slice_set (seen_links passed links) i lazy.port)
-seen_after passed i links lazy taken told ecu = ap (state_at ecu) (set_seen passed i links lazy taken told)
+pub seen_after : (passed i : ℕ) (ports : List LazyPort) (lazy : LazyPort) → lazy.taken ≡ passed → (told : lazy.port.link.state.now ≤ last_tick) (ecu : State)
+    → state_at ecu (seen_ports passed (slice_set ports i lazy)) ≡ state_at ecu (slice_set (seen_ports passed ports) i lazy.port)
+seen_after passed i ports lazy taken told ecu = ap (state_at ecu) (set_seen passed i ports lazy taken told)
 
-pub caught_told : (passed : ℕ) (lazy : LazyLink) (port : Port) → port ≡ caught_up passed lazy → port.link.state.now ≤ last_tick
+pub caught_told : (passed : ℕ) (lazy : LazyPort) (port : Port) → port ≡ caught_up passed lazy → port.link.state.now ≤ last_tick
 caught_told passed lazy port is =
     let clock = ap (λ (p : Port). p.link.state.now) is ∙ later_now (passed - lazy.taken) (port_of lazy.port) in
     omega (arith, clock)
 
 -- a port stands as it is seen
-pub seen_at : (passed i j : ℕ) (links : List LazyLink) (lazy : LazyLink) (seen : List Port) → seen_links passed links ≡ seen → j ≡ i
-    → slice_get links i ≡ Some lazy → slice_get seen j ≡ Some (caught_up passed lazy)
-seen_at passed i j links lazy seen is same at =
-    sym (ap (λ ls. slice_get ls j) is) ∙ (ap (λ k. slice_get (seen_links passed links) k) same
-    ∙ (slice_get-map (λ l. caught_up passed l) links i ∙ ap (option_map (λ l. caught_up passed l)) at))
+pub seen_at : (passed i j : ℕ) (ports : List LazyPort) (lazy : LazyPort) (seen : List Port) → seen_ports passed ports ≡ seen → j ≡ i
+    → slice_get ports i ≡ Some lazy → slice_get seen j ≡ Some (caught_up passed lazy)
+seen_at passed i j ports lazy seen is same at =
+    sym (ap (λ ls. slice_get ls j) is) ∙ (ap (λ k. slice_get (seen_ports passed ports) k) same
+    ∙ (slice_get-map (λ l. caught_up passed l) ports i ∙ ap (option_map (λ l. caught_up passed l)) at))

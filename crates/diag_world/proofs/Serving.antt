@@ -20,7 +20,7 @@ use Rattle.diag_desk.proofs.Runs.{legal_more, after_more}
 use Rattle.diag_desk.proofs.TimedLemmas.{own_timed-append, timed-append}
 use Rattle.diag_port.specs.declared.port.Port.{Port}
 use Rattle.diag_port.specs.Late.{pace_of}
-use Rattle.diag_port.specs.Placing.{drawn}
+use Rattle.diag_port.specs.Releasing.{drawn}
 use Rattle.diag_port.specs.Port.{PortState, port_of, time_after}
 use Rattle.diag_port.specs.Standing.{PortStands, Went}
 use Rattle.diag_world.specs.Server.{EachStretch, PortWent, ServerState, ServerView, server_of, sent_by, ServedFrom, ServesFrom, Settled, WasSet}

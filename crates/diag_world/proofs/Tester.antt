@@ -18,9 +18,9 @@ use Rattle.diag_port.specs.Standing.{HasKept, PortStands, PortTook, TookEvent}
 use Rattle.diag_world.specs.Server.{Answered, EachRun, IsEarly, PortWent, TesterTook, ServerState, ServerTook, ServerView, Settled, closing_time, server_of, state_at}
 use Rattle.diag_world.specs.Weaving.{items_of}
 use Rattle.diag_world.proofs.Serving.{port_at, same_who, server_went}
-use Rattle.diag_world.specs.Lazy.{caught_up}
-use Rattle.diag_world.specs.declared.lazy_link.LazyLink.{LazyLink}
-use Rattle.diag_world.proofs.Lazy.{seen_links}
+use Rattle.diag_world.specs.LazyPort.{caught_up}
+use Rattle.diag_world.specs.declared.lazy_port.LazyPort.{LazyPort}
+use Rattle.diag_world.proofs.Lazy.{seen_ports}
 
 -- a server of this ECU and these ports
 abbrev view_of : State → List Port → ServerView
@@ -33,24 +33,24 @@ pub record IsAt (ecu : State) (ports : List Port) (now : ServerView) (who i : �
   pub found : slice_get ports i ≡ Some port
 
 -- the tester's port stands where it was read, and as it is once it has caught up
-module _ {ecu : State} (links : List LazyLink) {now : ServerView} (passed at : ℕ) {who : ℕ} {lazy : LazyLink} (seen : view_of ecu (seen_links passed links) ≡ now)
-    (in_setup : who ≤ length now.ports) (place : who ≡ at + 1) (read : lazy ≡ get_or links at lazy) where
-  pub lazy_at : slice_get links at ≡ Some lazy
+module _ {ecu : State} (ports : List LazyPort) {now : ServerView} (passed at : ℕ) {who : ℕ} {lazy : LazyPort} (seen : view_of ecu (seen_ports passed ports) ≡ now)
+    (in_setup : who ≤ length now.ports) (place : who ≡ at + 1) (read : lazy ≡ get_or ports at lazy) where
+  pub lazy_at : slice_get ports at ≡ Some lazy
   lazy_at =
-      let within : at < length links = omega (
+      let within : at < length ports = omega (
         arith,
         in_setup,
         ap (λ (v : ServerView). length v.ports) seen,
-        length-map links (λ l. caught_up passed l),
+        length-map ports (λ l. caught_up passed l),
         place,
       ) in
-      slice_get_read links (length links) at lazy refl within read
+      slice_get_read ports (length ports) at lazy refl within read
 
-  pub port_there : (port : Port) → port ≡ caught_up passed lazy → IsAt ecu (seen_links passed links) now who at port
+  pub port_there : (port : Port) → port ≡ caught_up passed lazy → IsAt ecu (seen_ports passed ports) now who at port
   port_there port is = record {
     seen = seen;
     is = place;
-    found = slice_get-map (λ l. caught_up passed l) links at ∙ (ap (option_map (λ l. caught_up passed l)) lazy_at ∙ ap Some (sym is));
+    found = slice_get-map (λ l. caught_up passed l) ports at ∙ (ap (option_map (λ l. caught_up passed l)) lazy_at ∙ ap Some (sym is));
   }
 
 -- a port took an event, and the ECU of whoever took its step answered it

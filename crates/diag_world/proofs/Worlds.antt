@@ -73,7 +73,7 @@ items_other M t u e away = items_of-append M ((t, e) ∷ []) u ∙ (ap (λ b. it
 pub other_place : (i j who : ℕ) → who ≡ i + 1 → j ≢ i → (who == (j + 1)) ≡ false
 other_place i j who is apart = grind (arith, nat_tests)
 
--- the tester at an index is that of the next place
+-- the tester at an index is that of the next number
 pub who_found : (setup : RawSetup) (i who : ℕ) → Some who ≡ who_at setup i → who ≡ i + 1
 who_found setup i who h = pick (nat_lt i (length setup.testers)) h
   where

@@ -10,7 +10,7 @@ use Rattle.diag_desk.specs.Entry.{most_entries}
 use Rattle.diag_desk.specs.Entries.{asked_by}
 use Rattle.diag_desk.specs.Timed.{Timed, entries_of}
 use Rattle.diag_port.specs.declared.pace.Pace.{Pace}
-use Rattle.diag_port.specs.Placing.{drawn}
+use Rattle.diag_port.specs.Releasing.{drawn}
 use Rattle.diag_port.specs.Port.{IsAtRest, PortState, port_of}
 use Rattle.diag_port.specs.Standing.{HasKept, PortStands}
 use Rattle.diag_world.specs.Weaving.{all_by}

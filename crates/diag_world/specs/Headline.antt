@@ -9,7 +9,7 @@ use Rattle.diag_desk.specs.Legal.{Run, Legal}
 use Rattle.diag_desk.specs.Entries.{asked_by}
 use Rattle.diag_desk.specs.Timed.{own_timed, timed}
 use Rattle.diag_port.specs.Late.{pace_of}
-use Rattle.diag_port.specs.Placing.{drawn}
+use Rattle.diag_port.specs.Releasing.{drawn}
 use Rattle.diag_world.specs.Weaving.{steps_of, log_of, IsInterleaving, AsksItsLog}
 
 -- However the testers' events fall, as M says, this is what a play of their logs leaves.

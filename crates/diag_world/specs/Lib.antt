@@ -2,6 +2,6 @@ pub mod Headline
 pub mod Channel
 pub mod Weaving
 pub mod World
-pub mod Lazy
+pub mod LazyPort
 pub mod Server
 pub mod Block

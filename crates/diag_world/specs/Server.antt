@@ -15,7 +15,7 @@ use Rattle.diag_desk.specs.Legal.{Legal, after, after_step, reply_to}
 use Rattle.diag_desk.specs.Timed.{Timed, entries_of, own_timed, timed, timed_entry}
 use Rattle.diag_port.specs.declared.port.Port.{Port}
 use Rattle.diag_port.specs.Late.{pace_of}
-use Rattle.diag_port.specs.Placing.{drawn}
+use Rattle.diag_port.specs.Releasing.{drawn}
 use Rattle.diag_port.specs.Port.{AreWithin, Grew, PortState, port_of, port_quiet, time_after}
 use Rattle.diag_port.specs.Standing.{HasKept, PortStands, PortTook, entry_of_ticks}
 use Rattle.diag_world.specs.Weaving.{items_of, steps_of}

@@ -31,7 +31,7 @@ pub trait Keeper {
     ghost unkept: { Self → Self → Type 0 };
 
     /// The name of what is written to, where that is borrowed.
-    ghost place: { Self → ℕ };
+    ghost target: { Self → ℕ };
 
     /// Keeps the entry of a request and its reply; `ecu` is the ECU before it, and `before` the ticks of its tester.
     ///
@@ -51,7 +51,7 @@ pub trait Keeper {
             (keeps self.old ecu.now before (asks who request.now (option_copied reply.entry)) self.new) }
         ensures full { IfErr result (IsFaultBy Self.Fault.from_gives (is_full self.old)) }
         ensures err { OnErr result (unkept self.old self.new) }
-        ensures place { place self.new ≡ place self.old };
+        ensures target { target self.new ≡ target self.old };
 
     /// Keeps the entry of so many ticks; `ecu` is the ECU before them, and `before` the ticks of their tester.
     ///
@@ -68,7 +68,7 @@ pub trait Keeper {
         ensures kept { OnOk result (keeps self.old ecu.now before (entry_of_ticks who count) self.new) }
         ensures full { IfErr result (IsFaultBy Self.Fault.from_gives (is_full self.old)) }
         ensures err { OnErr result (unkept self.old self.new) }
-        ensures place { place self.new ≡ place self.old };
+        ensures target { target self.new ≡ target self.old };
 
     /// A keeper that was asked nothing is as a refused keep leaves it.
     ghost unkept_same: { (keeper : Self) → unkept keeper keeper };
@@ -89,7 +89,7 @@ impl Keeper for NoJournal {
 
     ghost unkept = { λ old new. new ≡ old };
 
-    ghost place = { λ _. 0 };
+    ghost target = { λ _. 0 };
 
     fn keep_request(
         &mut self,

@@ -4,7 +4,7 @@
 mod channel;
 mod keeper;
 mod laws;
-mod lazy_link;
+mod lazy_port;
 mod serial_play;
 mod server;
 mod taking;

@@ -33,7 +33,7 @@ ghost use Rattle.diag_world.specs.Block.{some_in_block};
 ghost use Rattle.diag_world.specs.Server.{closing_time, quiet_of, server_of, AreEarly, EachRun, IsEarly, TesterTook, Serves, ServerTook, TookNothing, Waited, WasSet};
 
 use crate::keeper::Keeper;
-use crate::lazy_link::LazyLink;
+use crate::lazy_port::LazyPort;
 use diag_can::{Event, TickCount};
 use diag_ecu::Ecu;
 use diag_pdu::{Message, Request};
@@ -56,8 +56,8 @@ pub const CLOSING_TIME: u64 = 1 << 63;
 /// journal, and only then takes the event, which can't fail.
 pub struct Server {
     ecu: Ecu,
-    links: Vec<LazyLink>,
-    /// How many ticks have passed for all links in which none did anything.
+    ports: Vec<LazyPort>,
+    /// How many ticks have passed for all ports in which none did anything.
     passed: u64,
 }
 
@@ -66,7 +66,7 @@ impl Drop for Server {
     fn drop(self) {
         let Server {
             ecu: _,
-            links: _,
+            ports: _,
             passed: _,
         } = self;
     }
@@ -74,15 +74,15 @@ impl Drop for Server {
 
 impl Model for Server {
     ghost use Rattle.std.specs.Prelude.{map};
-    ghost use Rattle.diag_world.specs.Lazy.{caught_up, AreLazy};
+    ghost use Rattle.diag_world.specs.LazyPort.{caught_up, AreLazy};
     ghost use Rattle.diag_world.specs.Server.{ServerView};
 
     ghost Value = { ServerView };
 
     ghost view = { λ s.
-        record { ecu = s.ecu; ports = map (λ lazy. caught_up s.passed lazy) s.links.items } };
+        record { ecu = s.ecu; ports = map (λ lazy. caught_up s.passed lazy) s.ports.items } };
 
-    ghost invariant = { λ s. AreLazy s.passed s.links.items };
+    ghost invariant = { λ s. AreLazy s.passed s.ports.items };
 }
 
 impl Server {
@@ -91,16 +91,16 @@ impl Server {
         ensures { IfOk result (λ server. Serves setup.now (server_of server) [] []) }
     {
         let ecu = Ecu::new(alloc, setup)?;
-        let mut links = Vec::with_capacity(alloc, setup.testers())?;
+        let mut ports = Vec::with_capacity(alloc, setup.testers())?;
         for index in 0..setup.testers() {
             let Some(who) = setup.who(index) else {
                 unreachable!()
             };
-            links.push_reserved(LazyLink::new(alloc, setup.link(who), Pace::of(setup)));
+            ports.push_reserved(LazyPort::new(alloc, setup.link(who), Pace::of(setup)));
         }
         Ok(Server {
             ecu,
-            links,
+            ports,
             passed: 0,
         })
     }
@@ -123,7 +123,7 @@ impl Server {
         requires early { IsEarly self.old (who - 1) }
         ensures took { OnOk result (ServerTook K.keeps (server_of self.old) (server_of self.new)
             keeper.old keeper.new who event.now out.old.items out.new.items) }
-        ensures place { K.place keeper.new ≡ K.place keeper.old }
+        ensures target { K.target keeper.new ≡ K.target keeper.old }
         ensures err { OnErr result
             ((server_of self.new ≡ server_of self.old) × (out.new.items ≡ out.old.items)) }
         ensures unkept { OnErr result (K.unkept keeper.old keeper.new) }
@@ -132,7 +132,7 @@ impl Server {
             IsSome (gives (link_of setup who) (items_of M who) event.now)))) }
     {
         let index = who.index();
-        let lazy = &mut self.links[index];
+        let lazy = &mut self.ports[index];
         lazy.catch_up(self.passed);
         take_at(&mut lazy.port, &mut self.ecu, who, event, keeper, out)
     }
@@ -143,7 +143,7 @@ impl Server {
         ensures { IsTrue result ↔ IsEarly self.now (who - 1) }
     {
         let index = who.index();
-        self.links[index].is_early(self.passed)
+        self.ports[index].is_early(self.passed)
     }
 
     /// Takes so many ticks of each tester, in order, in which no port does anything. The entries that they give have no
@@ -167,8 +167,8 @@ impl Server {
         ensures some { 1 ≤ result }
     {
         let mut least = u64::MAX;
-        for link in &self.links {
-            least = least.min(link.quiet(self.passed));
+        for lazy in &self.ports {
+            least = least.min(lazy.quiet(self.passed));
         }
         least
     }
@@ -177,7 +177,7 @@ impl Server {
     pub fn is_in_block(&self) -> bool
         ensures { result ≡ some_in_block (server_of self.now).ports }
     {
-        some_in_block(self.links.as_slice())
+        some_in_block(self.ports.as_slice())
     }
 
     /// For how many ticks a tester's port does nothing before the last of them; at least 1.
@@ -188,7 +188,7 @@ impl Server {
         ensures some { 1 ≤ result }
     {
         let index = who.index();
-        self.links[index].quiet(self.passed)
+        self.ports[index].quiet(self.passed)
     }
 
     /// The ECU as the run has made it.
@@ -225,11 +225,11 @@ impl Server {
     }
 }
 
-/// Whether at one of these links a ConsecutiveFrame of a reply is still to go.
-fn some_in_block(links: &[LazyLink]) -> bool
-    ensures { result ≡ list_any (λ lazy. port_in_block (port_of lazy.port)) links.now }
+/// Whether at one of these ports a ConsecutiveFrame of a reply is still to go.
+fn some_in_block(ports: &[LazyPort]) -> bool
+    ensures { result ≡ list_any (λ lazy. port_in_block (port_of lazy.port)) ports.now }
 {
-    links.iter().any(|link| link.is_in_block())
+    ports.iter().any(|lazy| lazy.is_in_block())
 }
 
 /// A server's ECU, and who keeps the journal of what it answers.
@@ -260,7 +260,7 @@ impl<'a, K: Keeper> TakeSteps for Answering<'a, K> {
 
     ghost stays = { λ old new. (new.ecu.ghost_name ≡ old.ecu.ghost_name)
         × (new.keeper.ghost_name ≡ old.keeper.ghost_name)
-        × (K.place new.keeper.now ≡ K.place old.keeper.now) };
+        × (K.target new.keeper.now ≡ K.target old.keeper.now) };
 
     #[inline(always)]
     fn can_delay(&self) -> bool {
@@ -310,7 +310,7 @@ fn take_at<K: Keeper>(
     ensures took { OnOk result (TesterTook K.keeps ecu.old ecu.new (port_of port.old) (port_of port.new)
         keeper.old keeper.new who event.now out.old.items out.new.items) }
     ensures rest { IsAtRest port.new }
-    ensures place { K.place keeper.new ≡ K.place keeper.old }
+    ensures target { K.target keeper.new ≡ K.target keeper.old }
     ensures err { OnErr result
         (TookNothing K.unkept ecu.old ecu.new (port_of port.old) (port_of port.new) keeper.old keeper.new
         out.old.items out.new.items) }

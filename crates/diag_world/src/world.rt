@@ -20,7 +20,7 @@ ghost use Rattle.diag_desk.specs.Entry.{IsJournal, most_entries};
 ghost use Rattle.diag_desk.specs.Legal.{IsOpening, Legal, after};
 ghost use Rattle.diag_desk.specs.Timed.{own_timed, timed};
 ghost use Rattle.diag_port.specs.Late.{pace_of};
-ghost use Rattle.diag_port.specs.Placing.{drawn};
+ghost use Rattle.diag_port.specs.Releasing.{drawn};
 ghost use Rattle.diag_world.specs.Channel.{channel_of, IsResting, EachChannelRun};
 ghost use Rattle.diag_world.specs.Weaving.{items_of};
 ghost use Rattle.diag_world.specs.World.{EachInterleaving, Stands, Took};

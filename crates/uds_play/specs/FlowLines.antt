@@ -1,8 +1,8 @@
 -- Which lines of a bus are a tester's flow control (ISO 15765-2:2016, 9.6.5).
 use Rattle.std.specs.Prelude.{ℕ, ◌/◌, ◌==◌, ◌&&◌, Bool, false, List, [], ◌∷◌, Option, Some, None, Result, Ok, Err}
 use Rattle.std.specs.List.{list_any}
-use Rattle.diag_can.specs.declared.bus.BusLine.{BusLine}
-use Rattle.diag_can.specs.declared.bus.BusLine.TheVariants.{Empty, Ticks, Stamped}
+use Rattle.diag_can.specs.declared.bus_line.BusLine.{BusLine}
+use Rattle.diag_can.specs.declared.bus_line.BusLine.TheVariants.{Empty, Ticks, Stamped}
 use Rattle.diag_can.specs.declared.fault.LineFault.{LineFault}
 use Rattle.diag_can.specs.declared.frame.Frame.{Frame}
 
@@ -10,8 +10,8 @@ use Rattle.diag_can.specs.declared.frame.Frame.{Frame}
 abbrev pub is_flow : List ℕ → Bool
 is_flow [] = false
 is_flow (control ∷ []) = false
-is_flow (control ∷ block ∷ []) = false
-is_flow (control ∷ block ∷ gap ∷ rest) = control / 16 == 3
+is_flow (control ∷ block_size ∷ []) = false
+is_flow (control ∷ block_size ∷ st_min ∷ rest) = control / 16 == 3
 
 -- such a frame with one of these identifiers
 abbrev pub flows : List ℕ → Option Frame → Bool

@@ -55,7 +55,7 @@ pub fn answer_at(
         let Some((who, step)) = entry_of(alloc, line, is_stamped)? else {
             return Ok(None);
         };
-        if usize::from(who.place()) > setup.testers() {
+        if usize::from(who.number()) > setup.testers() {
             return Ok(Some(Answer::NoTester));
         }
         answer = Some(Answer::Reply(desk.step(who, &step)?));

@@ -2,7 +2,7 @@
 
 ghost use Rattle.std.specs.List.{list_any};
 ghost use Rattle.std.specs.Prelude.{◌≡◌, ◌≤◌, ◌==◌, length, IfOk, IfSome, IsOk, Ok};
-ghost use Rattle.diag_can.specs.Bus.{HasNoFeed, bus_line};
+ghost use Rattle.diag_can.specs.BusLine.{HasNoFeed, bus_line};
 ghost use Rattle.uds_play.specs.FlowLines.{is_flow, reads_flow, says_flow};
 
 use diag_can::{BusLine, CanId, LONGEST_LINE, first_line, read_bus_line};

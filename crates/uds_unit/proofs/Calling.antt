@@ -4,7 +4,7 @@ use Rattle.std.proofs.lemmas.List.{append-nil, length-map, map-append}
 use Rattle.std.specs.List.{flat_map}
 use Rattle.std.specs.Prelude.{slice_get}
 use Rattle.diag_can.specs.Log.{waited}
-use Rattle.diag_can.specs.declared.bus.BusLine.TheVariants.{Stamped}
+use Rattle.diag_can.specs.declared.bus_line.BusLine.TheVariants.{Stamped}
 use Rattle.diag_can.specs.declared.frame.Event.{Event}
 use Rattle.diag_can.specs.declared.frame.Frame.{Frame}
 use Rattle.diag_pdu.specs.Cut.{counted_from}
@@ -16,27 +16,27 @@ use Rattle.diag_desk.specs.Legal.{after}
 use Rattle.diag_desk.specs.Timed.{Timed, entries_of, timed}
 use Rattle.diag_world.proofs.Serving.{entries_timed}
 use Rattle.diag_world.specs.Server.{ServerView, ServesFrom, WasSet, each_of, sent_by, server_of}
-use Rattle.diag_bus.specs.Batch.{IsBy, TookTime}
 use Rattle.diag_bus.specs.Events.{frame_to, said_gives}
+use Rattle.diag_bus.specs.Node.{IsBy, TookTime}
 use Rattle.diag_bus.specs.Text.{gathered, time_of}
 use Rattle.diag_bus.specs.declared.writing.Drawn.{Drawn}
 use Rattle.uds_unit.specs.Device.{AreSound, DeviceState, IsClock, Stands, TookCall, latest_ms}
-use Rattle.uds_unit.specs.Going.{Drew, Gave, IsReady, SameShape, lists_of}
+use Rattle.uds_unit.specs.Node.{Drew, Gave, IsReady, SameShape, lists_of}
 use Rattle.uds_unit.specs.History.{Call, At, History, all_more, beginning, entries_in, frames_more, gone_on, history, journal_of, next_of, sent_in, set_to, taken, timed_of}
 use Rattle.uds_unit.specs.Journal.{entered}
 use Rattle.uds_unit.specs.Moments.{clock_at, reference_of, span_at, time_of_clock}
 use Rattle.uds_unit.specs.declared.clock.Clock.{Clock}
-use Rattle.uds_unit.specs.declared.going.Going.{Going}
+use Rattle.uds_unit.specs.declared.node.Node.{Node}
 use Rattle.uds_unit.proofs.Queued.{gathered_is}
 use Rattle.uds_unit.proofs.Run.{history_more, run_from, span_is}
 
 -- what a contract sees of a unit with this server
-abbrev pub seen : RawSetup → Going → Option Clock → List Drawn → DeviceState
-seen setup going clock waiting = record {
+abbrev pub seen : RawSetup → Node → Option Clock → List Drawn → DeviceState
+seen setup node clock waiting = record {
   setup = setup;
-  server = going.server;
-  wanted = going.wanted;
-  text = going.text.items;
+  server = node.server;
+  wanted = node.wanted;
+  text = node.text.items;
   clock = clock;
   waiting = waiting;
 }
@@ -57,13 +57,13 @@ same_events setup clock moment frame =
 -- ---- what a call draws
 
 -- a call begins: the testers' lists are empty, and of the text so much was handed out
-drew_none : (setup : RawSetup) (going : Going) (h : History) (told : List ℕ)
-    → ServesFrom h.opened h.past setup (server_of going.server) h.events (journal_of setup h)
-    → length going.drawn.items ≡ length setup.testers
-    → ((i : ℕ) (frames : List Sent) → slice_get (lists_of going) i ≡ Some frames → frames ≡ [])
-    → entered going.wanted (entries_in setup h) ≡ told ++ going.text.items
-    → Drew h.opened h.past setup going (sent_in setup h) told h.events
-drew_none setup going h told serves lists empty text = record {
+drew_none : (setup : RawSetup) (node : Node) (h : History) (told : List ℕ)
+    → ServesFrom h.opened h.past setup (server_of node.server) h.events (journal_of setup h)
+    → length node.drawn.items ≡ length setup.testers
+    → ((i : ℕ) (frames : List Sent) → slice_get (lists_of node) i ≡ Some frames → frames ≡ [])
+    → entered node.wanted (entries_in setup h) ≡ told ++ node.text.items
+    → Drew h.opened h.past setup node (sent_in setup h) told h.events
+drew_none setup node h told serves lists empty text = record {
   journal = journal_of setup h;
   serves = serves;
   lists = lists;
@@ -72,40 +72,40 @@ drew_none setup going h told serves lists empty text = record {
 }
 
 -- the server took what a moment and the frame then give
-module _ (setup : RawSetup) (h : History) (moment : ℕ) (frame : Option Frame) (going : Going) (told : List ℕ)
-    (drew : Drew h.opened h.past setup going (sent_in setup h) told (gone_on setup h moment frame).events) where
+module _ (setup : RawSetup) (h : History) (moment : ℕ) (frame : Option Frame) (node : Node) (told : List ℕ)
+    (drew : Drew h.opened h.past setup node (sent_in setup h) told (gone_on setup h moment frame).events) where
   abbrev next : History
   next = gone_on setup h moment frame
 
   -- the journal is the one of the history
   journal_is : drew.journal ≡ journal_of setup next
-  journal_is = run_from h.opened h.past setup (server_of going.server) next.events drew.journal drew.serves
+  journal_is = run_from h.opened h.past setup (server_of node.server) next.events drew.journal drew.serves
 
   -- the frames of the lists are those that the testers are sent more
-  frames_next : (i : ℕ) (frames : List Sent) → slice_get (lists_of going) i ≡ Some frames
+  frames_next : (i : ℕ) (frames : List Sent) → slice_get (lists_of node) i ≡ Some frames
       → sent_in setup next (i + 1) ≡ sent_in setup h (i + 1) ++ frames
   frames_next i frames at =
       ap (λ K. sent_by setup next.events (h.past ++ timed h.opened K) (i + 1)) (sym journal_is) ∙ drew.frames i frames at
 
-  all_is : all_more setup h next ≡ in_order time_of (gathered 1 (lists_of going))
+  all_is : all_more setup h next ≡ in_order time_of (gathered 1 (lists_of node))
   all_is =
-      let many : length (lists_of going) ≡ length setup.testers = length-map going.drawn.items (λ f. f.items) ∙ drew.lists in
+      let many : length (lists_of node) ≡ length setup.testers = length-map node.drawn.items (λ f. f.items) ∙ drew.lists in
       ap (in_order time_of) (ap (λ n. flat_map (frames_more setup h next) (counted_from 1 n)) (sym many)
-      ∙ gathered_is (sent_in setup h) (sent_in setup next) 1 (lists_of going) frames_next)
+      ∙ gathered_is (sent_in setup h) (sent_in setup next) 1 (lists_of node) frames_next)
 
   stands_next : (clock : Option Clock) (waiting waiting' handed : List Drawn) → clock ≡ h.clock → h.sent ≡ handed ++ waiting
-      → waiting' ≡ waiting ++ in_order time_of (gathered 1 (lists_of going))
-      → Stands (seen setup going (Some (clock_at clock moment)) waiting') (taken setup h moment frame) handed told
+      → waiting' ≡ waiting ++ in_order time_of (gathered 1 (lists_of node))
+      → Stands (seen setup node (Some (clock_at clock moment)) waiting') (taken setup h moment frame) handed told
   stands_next clock waiting waiting' handed clock_is sent queued = record {
-    serves = subst (λ K. ServesFrom h.opened h.past setup (server_of going.server) next.events K) journal_is drew.serves;
+    serves = subst (λ K. ServesFrom h.opened h.past setup (server_of node.server) next.events K) journal_is drew.serves;
     clock = ap (λ c. Some (clock_at c moment)) clock_is;
     sent = ap₂ ◌++◌ sent all_is
-        ∙ (append_assoc handed waiting (in_order time_of (gathered 1 (lists_of going))) ∙ ap (λ w. handed ++ w) (sym queued));
-    text = ap (λ K. entered going.wanted (entries_of h.past ++ K)) (sym journal_is) ∙ drew.text;
+        ∙ (append_assoc handed waiting (in_order time_of (gathered 1 (lists_of node))) ∙ ap (λ w. handed ++ w) (sym queued));
+    text = ap (λ K. entered node.wanted (entries_of h.past ++ K)) (sym journal_is) ∙ drew.text;
   }
 
 -- a call begins, what it gives is given to the server, and what that drew is due
-pub took_call : (setup : RawSetup) (old begun done : Going) (clock : Option Clock) (waiting waiting' : List Drawn) (moment : ℕ) (frame : Option Frame)
+pub took_call : (setup : RawSetup) (old begun done : Node) (clock : Option Clock) (waiting waiting' : List Drawn) (moment : ℕ) (frame : Option Frame)
     → ((i : ℕ) (frames : List Sent) → slice_get (lists_of begun) i ≡ Some frames → frames ≡ []) → begun.text.items ≡ old.text.items
     → begun.server ≡ old.server → SameShape old begun → length old.drawn.items ≡ length setup.testers
     → Gave begun done (events_at setup clock moment frame)
@@ -141,7 +141,7 @@ clock_early None h = omega arith
 clock_early (Some clock) h = omega (arith, h.1)
 
 -- so much may pass
-pub ready : (setup : RawSetup) (old begun : Going) (clock : Option Clock) (moment : ℕ) → moment ≤ latest_ms → AreSound setup old clock
+pub ready : (setup : RawSetup) (old begun : Node) (clock : Option Clock) (moment : ℕ) → moment ≤ latest_ms → AreSound setup old clock
     → begun.server ≡ old.server → SameShape old begun → IsReady begun (length setup.testers) (span_at clock moment)
 ready setup old begun clock moment most sound server first =
     let time = time_more clock moment sound.3 in
@@ -157,7 +157,7 @@ ready setup old begun clock moment most sound server first =
     }
 
 -- what holds whatever the unit took
-pub sound_more : (setup : RawSetup) (old begun done : Going) (clock : Option Clock) (moment : ℕ) → moment ≤ latest_ms → AreSound setup old clock
+pub sound_more : (setup : RawSetup) (old begun done : Node) (clock : Option Clock) (moment : ℕ) → moment ≤ latest_ms → AreSound setup old clock
     → begun.server ≡ old.server → SameShape old begun → SameShape begun done → TookTime begun.server done.server (span_at clock moment)
     → AreSound setup done (Some (clock_at clock moment))
 sound_more setup old begun done clock moment most sound server first second took = (
@@ -172,7 +172,7 @@ sound_more setup old begun done clock moment most sound server first second took
 
 -- ---- what the ECU's own software sets
 
-pub set_call : (setup : RawSetup) (old new : Going) (clock : Option Clock) (waiting : List Drawn) (call : Call) (ecu : State)
+pub set_call : (setup : RawSetup) (old new : Node) (clock : Option Clock) (waiting : List Drawn) (call : Call) (ecu : State)
     → WasSet (server_of old.server) (server_of new.server) ecu → new.wanted ≡ old.wanted → new.text ≡ old.text
     → ((h : History) → after h.opened (journal_of setup h) ≡ old.server.ecu → next_of setup h call ≡ set_to setup h ecu)
     → TookCall (seen setup old clock waiting) (seen setup new clock waiting) call

@@ -19,9 +19,9 @@ use Rattle.diag_world.specs.Server.{ServerState, ServerView, ServesFrom, Settled
 use Rattle.diag_world.specs.Weaving.{items_of}
 use Rattle.diag_world.proofs.Times.{ticks_stretched}
 use Rattle.diag_world.proofs.Worlds.{set_cases, other_place}
-use Rattle.uds_unit.specs.Going.{Gave, SameShape, lists_of}
+use Rattle.uds_unit.specs.Node.{Gave, SameShape, lists_of}
 use Rattle.uds_unit.specs.Journal.{entered, entry_added}
-use Rattle.uds_unit.specs.declared.going.Going.{Going}
+use Rattle.uds_unit.specs.declared.node.Node.{Node}
 use Rattle.uds_unit.proofs.Entered.{entered_more}
 
 -- ---- the clock of a tester
@@ -48,17 +48,17 @@ clock_told opened T setup server M K who i port asked h is found early by =
 -- ---- one event more
 
 -- the call with this list at a place
-abbrev pub going_with : Going → ServerView → ℕ → Vec Sent Global → Vec ℕ Global → Going
-going_with old server i list text = record { server = server; wanted = old.wanted; drawn = with_item old.drawn i list; text = text }
+abbrev pub node_with : Node → ServerView → ℕ → Vec Sent Global → Vec ℕ Global → Node
+node_with old server i list text = record { server = server; wanted = old.wanted; drawn = with_item old.drawn i list; text = text }
 
 -- the list of the tester `who` stands at its place i
-pub record IsListAt (old : Going) (who i : ℕ) (list : Vec Sent Global) : Type 0 where
+pub record IsListAt (old : Node) (who i : ℕ) (list : Vec Sent Global) : Type 0 where
   pub is : who ≡ i + 1
   pub within : i < length old.drawn.items
   pub read : list ≡ get_or old.drawn.items i list
 
 -- the tester's list stands where it was read
-pub list_at : (old : Going) {who i : ℕ} {list : Vec Sent Global} → who ≤ length old.server.ports → length old.drawn.items ≡ length old.server.ports
+pub list_at : (old : Node) {who i : ℕ} {list : Vec Sent Global} → who ≤ length old.server.ports → length old.drawn.items ≡ length old.server.ports
     → who ≡ i + 1 → list ≡ get_or old.drawn.items i list → IsListAt old who i list
 list_at old in_setup lists is read = record { is = is; within = omega (arith, in_setup, lists, is); read = read }
 
@@ -73,7 +73,7 @@ ports_same old new same =
     sym (length-map new.ports port_of) ∙ (ap (λ (s : ServerState). length s.ports) same ∙ length-map old.ports port_of)
 
 -- a call with another list in its place
-module _ {old : Going} {who i : ℕ} {list : Vec Sent Global} (here : IsListAt old who i list) where
+module _ {old : Node} {who i : ℕ} {list : Vec Sent Global} (here : IsListAt old who i list) where
   -- the frames that were drawn
   found : slice_get (lists_of old) i ≡ Some list.items
   found =
@@ -89,7 +89,7 @@ module _ {old : Going} {who i : ℕ} {list : Vec Sent Global} (here : IsListAt o
 
   -- the shape that it had, where the event was refused
   pub shape_refused : (server : ServerView) (list' : Vec Sent Global) (text : Vec ℕ Global) → server_of server ≡ server_of old.server
-      → SameShape old (going_with old server i list' text)
+      → SameShape old (node_with old server i list' text)
   shape_refused server list' text same = record {
     ports = ports_same old.server server same;
     lists = length-set old.drawn.items i list';
@@ -102,7 +102,7 @@ module _ {old : Going} {who i : ℕ} {list : Vec Sent Global} (here : IsListAt o
       (settled : Settled (server_of old.server) (server_of server) who e asked more) where
     pub gave_one : list'.items ≡ list.items ++ more → settled.moved.before.link.now ≤ closing_time → IfSome asked (λ k. k.who ≡ who)
         → text.items ≡ old.text.items ++ entry_added old.wanted settled.moved.before.link.now asked
-        → Gave old (going_with old server i list' text) ((who, e) ∷ [])
+        → Gave old (node_with old server i list' text) ((who, e) ∷ [])
     gave_one grew early by written = λ opened T setup base told M h.
         let now = settled.moved.before.link.now in
         let place : who ≡ (who - 1) + 1 = omega (arith, here.is) in
@@ -132,7 +132,7 @@ module _ {old : Going} {who i : ℕ} {list : Vec Sent Global} (here : IsListAt o
         }
 
     -- it has the shape that it had
-    pub shape_one : SameShape old (going_with old server i list' text)
+    pub shape_one : SameShape old (node_with old server i list' text)
     shape_one = record {
       ports = ports_moved old.server server who e asked more settled;
       lists = length-set old.drawn.items i list';

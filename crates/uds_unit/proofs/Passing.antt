@@ -15,33 +15,33 @@ use Rattle.diag_desk.specs.declared.entry.Entry.{Entry}
 use Rattle.diag_desk.specs.Timed.{entries_of}
 use Rattle.diag_port.specs.Port.{port_of}
 use Rattle.diag_world.specs.Server.{ServerView, Waited, each_of, entries_of_each, server_of}
-use Rattle.diag_bus.specs.Batch.{Lasts, OneWentOn}
 use Rattle.diag_bus.specs.Events.{frame_to}
+use Rattle.diag_bus.specs.Node.{Lasts, OneWentOn}
 use Rattle.diag_bus.proofs.Lines.{frames_none}
 use Rattle.diag_bus.proofs.Paces.{took_more, took_none, took_one}
-use Rattle.uds_unit.specs.Going.{Drew, Gave, Passed, SameShape}
+use Rattle.uds_unit.specs.Node.{Drew, Gave, Passed, SameShape}
 use Rattle.uds_unit.specs.Journal.{entered}
-use Rattle.uds_unit.specs.declared.going.Going.{Going}
+use Rattle.uds_unit.specs.declared.node.Node.{Node}
 
 -- events and further events
-pub gave_more : (a b c : Going) (L M : List (ℕ × Event)) → Gave a b L → Gave b c M → Gave a c (L ++ M)
+pub gave_more : (a b c : Node) (L M : List (ℕ × Event)) → Gave a b L → Gave b c M → Gave a c (L ++ M)
 gave_more a b c L M h k = λ opened T setup base told N d.
     subst (λ w. Drew opened T setup c base told w) (append_assoc N L M) (k opened T setup base told (N ++ L) (h opened T setup base told N d))
 
-pub gave_none : (a : Going) → Gave a a []
+pub gave_none : (a : Node) → Gave a a []
 gave_none a = λ opened T setup base told N d. subst (λ w. Drew opened T setup a base told w) (sym (append-nil N)) d
 
-pub same_more : (a b c : Going) → SameShape a b → SameShape b c → SameShape a c
+pub same_more : (a b c : Node) → SameShape a b → SameShape b c → SameShape a c
 same_more a b c h k = record { ports = k.ports ∙ h.ports; lists = k.lists ∙ h.lists; wanted = k.wanted ∙ h.wanted }
 
-pub same_none : (a : Going) → SameShape a a
+pub same_none : (a : Node) → SameShape a a
 same_none a = record { ports = refl; lists = refl; wanted = refl }
 
-pub passed_none : (a : Going) (span : ℕ) → Passed {A = Unit {0}} {E = AllocError} a a span [] (Ok tt)
+pub passed_none : (a : Node) (span : ℕ) → Passed {A = Unit {0}} {E = AllocError} a a span [] (Ok tt)
 passed_none a span = record { ok = gave_none a; shape = same_none a; pace = took_none a.server span }
 
 -- a tester's event that takes no time was given to the server
-pub passed_one : {r : Result (Unit {0}) AllocError} {a b : Going} (who : ℕ) (e : Event) → Lasts e 0 → OnOk r (Gave a b ((who, e) ∷ [])) → SameShape a b
+pub passed_one : {r : Result (Unit {0}) AllocError} {a b : Node} (who : ℕ) (e : Event) → Lasts e 0 → OnOk r (Gave a b ((who, e) ∷ [])) → SameShape a b
     → ((span : ℕ) → Lasts e span → OneWentOn a.server b.server (who - 1) span) → Passed a b 0 ((who, e) ∷ []) r
 passed_one {r} {a} {b} who e now gave shape pace = record {
   ok = gave;
@@ -50,10 +50,10 @@ passed_one {r} {a} {b} who e now gave shape pace = record {
 }
 
 -- the same, of a time and of events that are equal to these
-pub passed_as : {r : Result (Unit {0}) AllocError} {a b : Going} {n m : ℕ} {L M : List (ℕ × Event)} → n ≡ m → L ≡ M → Passed a b n L r → Passed a b m M r
+pub passed_as : {r : Result (Unit {0}) AllocError} {a b : Node} {n m : ℕ} {L M : List (ℕ × Event)} → n ≡ m → L ≡ M → Passed a b n L r → Passed a b m M r
 passed_as {r} {a} {b} {n} {m} {L} {M} time events h = subst (λ k. Passed a b k M r) time (subst (λ w. Passed a b n w r) events h)
 
-pub passed_then : {r : Result (Unit {0}) AllocError} {a b c : Going} {n m : ℕ} {L M : List (ℕ × Event)} (all : ℕ) → n + m ≤ all
+pub passed_then : {r : Result (Unit {0}) AllocError} {a b c : Node} {n m : ℕ} {L M : List (ℕ × Event)} (all : ℕ) → n + m ≤ all
     → Passed {A = Unit {0}} {E = AllocError} a b n L (Ok tt) → Passed b c m M r → Passed a c all (L ++ M) r
 passed_then {r} {a} {b} {c} {n} {m} {L} {M} all fits first second = record {
   ok = on_ok_weaker r (λ gave. gave_more a b c L M first.ok gave) second.ok;
@@ -66,7 +66,7 @@ unwritten K L false is = refl
 unwritten K L true is = absurd (true≢false is)
 
 -- ticks of each tester, in which no port does anything, where no journal is wanted
-pub passed_quietly : {E : Type 0} (old : Going) (server : ServerView) (n count : ℕ) → old.wanted ≡ false
+pub passed_quietly : {E : Type 0} (old : Node) (server : ServerView) (n count : ℕ) → old.wanted ≡ false
     → Waited (server_of old.server) (server_of server) n count
     → Passed {A = Unit {0}} {E = E} old (record { server = server; wanted = old.wanted; drawn = old.drawn; text = old.text }) count (each_of n (Ticks count)) (Ok tt)
 passed_quietly old server n count unwanted waited = record {
@@ -91,7 +91,7 @@ passed_quietly old server n count unwanted waited = record {
 }
 
 -- where memory was refused, nothing is said of the events
-pub passed_err : {e f : AllocError} {r : Result (Unit {0}) AllocError} {a b : Going} {n : ℕ} {L : List (ℕ × Event)} (all : ℕ) (M : List (ℕ × Event))
+pub passed_err : {e f : AllocError} {r : Result (Unit {0}) AllocError} {a b : Node} {n : ℕ} {L : List (ℕ × Event)} (all : ℕ) (M : List (ℕ × Event))
     → n ≤ all → r ≡ Err f → Passed {A = Unit {0}} {E = AllocError} a b n L (Err e) → Passed a b all M r
 passed_err {r = r} {a = a} {b} {n} all M fits is h = subst (λ (w : Result (Unit {0}) AllocError). Passed a b all M w) (sym is) (record {
   ok = tt;
@@ -100,7 +100,7 @@ passed_err {r = r} {a = a} {b} {n} all M fits is h = subst (λ (w : Result (Unit
 })
 
 -- a moment without a frame gives what its time does
-pub passed_quiet : {r : Result (Unit {0}) AllocError} {a b : Going} {n : ℕ} {L : List (ℕ × Event)} (setup : RawSetup) (frame : Option Frame)
+pub passed_quiet : {r : Result (Unit {0}) AllocError} {a b : Node} {n : ℕ} {L : List (ℕ × Event)} (setup : RawSetup) (frame : Option Frame)
     → frame ≡ None → Passed a b n L r
     → Passed a b n (L ++ flat_map (frame_to setup frame) (counted_from 1 (length setup.testers))) r
 passed_quiet {L = L} setup frame none h =

@@ -2,7 +2,7 @@
 use Rattle.std.specs.Prelude.{◌≡◌, ℕ, List, [], ◌∷◌, map, Option, Ok}
 use Rattle.std.specs.List.{flat_map}
 use Rattle.diag_can.specs.Line.{frame_for}
-use Rattle.diag_can.specs.declared.bus.BusLine.TheVariants.{Stamped}
+use Rattle.diag_can.specs.declared.bus_line.BusLine.TheVariants.{Stamped}
 use Rattle.diag_can.specs.declared.frame.Frame.{Frame}
 use Rattle.diag_setup.specs.Setup.{ids_of}
 use Rattle.diag_setup.specs.declared.raw.RawSetup.{RawSetup}

@@ -2,13 +2,13 @@
 use Rattle.std.specs.Prelude.{◌≡◌, ◌≤◌, ℕ, Bool, List, [], ◌∷◌, ◌++◌, length, Option, Some, None}
 use Rattle.diag_setup.specs.declared.raw.RawSetup.{RawSetup}
 use Rattle.diag_world.specs.Server.{ServerView, ServesFrom, server_of}
-use Rattle.diag_bus.specs.Batch.{IsBy}
+use Rattle.diag_bus.specs.Node.{IsBy}
 use Rattle.diag_bus.specs.declared.writing.Drawn.{Drawn}
 use Rattle.uds_unit.specs.History.{Call, History, entries_in, history, journal_of}
 use Rattle.uds_unit.specs.Journal.{entered}
 use Rattle.uds_unit.specs.Moments.{time_of_clock}
 use Rattle.uds_unit.specs.declared.clock.Clock.{Clock}
-use Rattle.uds_unit.specs.declared.going.Going.{Going}
+use Rattle.uds_unit.specs.declared.node.Node.{Node}
 
 -- what a contract sees of a unit: whether a journal is wanted, its text that was not handed out, and the frames that are due
 pub record DeviceState : Type 0 where
@@ -29,10 +29,10 @@ IsClock None = Unit {0}
 IsClock (Some clock) = (clock.start ≤ clock.latest) × (clock.latest ≤ latest_ms)
 
 -- what holds of the parts of a unit, whatever it took, also where a call was refused
-abbrev pub AreSound : RawSetup → Going → Option Clock → Type 0
-AreSound setup going clock = (length going.server.ports ≡ length setup.testers)
-    × (length going.drawn.items ≡ length setup.testers)
-    × IsBy going.server (time_of_clock clock)
+abbrev pub AreSound : RawSetup → Node → Option Clock → Type 0
+AreSound setup node clock = (length node.server.ports ≡ length setup.testers)
+    × (length node.drawn.items ≡ length setup.testers)
+    × IsBy node.server (time_of_clock clock)
     × IsClock clock
 
 -- The unit took the calls that have made this history. The frames that were handed out and those that are due are the

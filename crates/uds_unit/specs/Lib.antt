@@ -2,7 +2,7 @@ pub mod Handle
 pub mod Moments
 pub mod Journal
 pub mod Entering
-pub mod Going
+pub mod Node
 pub mod History
 pub mod Device
 pub mod Calls

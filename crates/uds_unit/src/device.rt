@@ -12,7 +12,7 @@ ghost use Rattle.uds_unit.specs.Moments.{due_us, start_of};
 
 use crate::clock::{Clock, moment_us};
 use crate::frames::queue_drawn;
-use crate::going::Going;
+use crate::node::Node;
 use diag_bus::{Drawn, RequestIds};
 use diag_can::Frame;
 use diag_desk::{JournalVersion, write_header};
@@ -30,7 +30,7 @@ use std::marker::Model;
 pub struct Device {
     setup: Setup,
     ids: RequestIds,
-    going: Going,
+    node: Node,
     clock: Option<Clock>,
     /// Room to put a call's frames in order.
     batch: Vec<Drawn>,
@@ -44,7 +44,7 @@ impl Drop for Device {
         let Device {
             setup: _,
             ids: _,
-            going: _,
+            node: _,
             clock: _,
             batch: _,
             waiting: _,
@@ -53,21 +53,21 @@ impl Drop for Device {
 }
 
 impl Model for Device {
-    ghost use Rattle.diag_bus.specs.Requests.{AreRequestsOf};
+    ghost use Rattle.diag_bus.specs.RequestIds.{AreRequestsOf};
     ghost use Rattle.uds_unit.specs.Device.{AreSound, DeviceState};
 
     ghost Value = { DeviceState };
 
     ghost view = { λ d. record {
       setup = d.setup;
-      server = d.going.server;
-      wanted = d.going.wanted;
-      text = d.going.text.items;
+      server = d.node.server;
+      wanted = d.node.wanted;
+      text = d.node.text.items;
       clock = d.clock;
       waiting = d.waiting.items;
     } };
 
-    ghost invariant = { λ d. AreSound d.setup d.going d.clock × AreRequestsOf d.setup d.ids };
+    ghost invariant = { λ d. AreSound d.setup d.node d.clock × AreRequestsOf d.setup d.ids };
 }
 
 impl Device {
@@ -84,7 +84,7 @@ impl Device {
         Ok(Device {
             setup,
             ids,
-            going: Going {
+            node: Node {
                 server,
                 wanted,
                 drawn,
@@ -108,11 +108,11 @@ impl Device {
         let span = Clock::span(self.clock, moment);
         // (first: no link's clock is ahead of the unit's, also where the call is refused)
         self.clock = Some(Clock::at(self.clock, moment));
-        self.going.begin();
-        self.going.take(&self.setup, &self.ids, span, frame)?;
+        self.node.begin();
+        self.node.take(&self.setup, &self.ids, span, frame)?;
         queue_drawn(
             &self.setup,
-            &mut self.going.drawn,
+            &mut self.node.drawn,
             &mut self.batch,
             &mut self.waiting,
         )
@@ -132,7 +132,7 @@ impl Device {
     pub fn text(&self) -> &[u8]
         ensures { result.now ≡ self.now.text }
     {
-        self.going.text.as_slice()
+        self.node.text.as_slice()
     }
 
     /// Lets the text of the journal go, which was handed out.
@@ -140,7 +140,7 @@ impl Device {
         ensures told { ToldJournal self.old self.new self.old.text }
         ensures same { SameUnit self.old self.new }
     {
-        self.going.text.clear();
+        self.node.text.clear();
     }
 
     /// The moment in milliseconds at which each tester's link had its time 0.
@@ -160,7 +160,7 @@ impl Device {
     {
         match self.clock {
             None => u64::MAX,
-            Some(clock) => moment_us(clock.latest, self.going.server.quiet()),
+            Some(clock) => moment_us(clock.latest, self.node.server.quiet()),
         }
     }
 
@@ -168,7 +168,7 @@ impl Device {
     pub fn ecu(&self) -> &Ecu
         ensures { result.now ≡ self.now.server.ecu }
     {
-        self.going.server.ecu()
+        self.node.server.ecu()
     }
 
     /// A data identifier of the setup, by its place in rising order, from 0.
@@ -189,16 +189,16 @@ impl Device {
         ensures err { OnErr result (self.new ≡ self.old) }
         ensures same { SameUnit self.old self.new }
     {
-        self.going.server.set_value(id, value)
+        self.node.server.set_value(id, value)
     }
 
-    /// Gives a DTC another status; whether the code is known.
+    /// Gives a DTC another status; whether the DTC is known.
     pub fn set_status(&mut self, code: u32, status: u8) -> bool
         ensures known { result ≡ is_some (status_of self.old.server.ecu.dtcs code) }
         ensures set { TookCall self.old self.new (SetStatus code status) }
         ensures same { SameUnit self.old self.new }
     {
-        self.going.server.set_status(code, status)
+        self.node.server.set_status(code, status)
     }
 }
 

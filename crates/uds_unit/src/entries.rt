@@ -29,7 +29,7 @@ impl<'a> Keeper for Entries<'a> {
 
     ghost unkept = { λ old new. new.text.now.items ≡ old.text.now.items };
 
-    ghost place = { λ entries. entries.text.ghost_name };
+    ghost target = { λ entries. entries.text.ghost_name };
 
     fn keep_request(
         &mut self,

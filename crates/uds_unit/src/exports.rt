@@ -284,7 +284,7 @@ fn put(out: &mut Reply, start: u64, drawn: &Drawn)
     let frame = &drawn.sent.frame;
     out.at_us = moment_us(start, drawn.sent.at);
     out.id = told_id(frame.id);
-    out.tester = drawn.who.place();
+    out.tester = drawn.who.number();
     out.bytes = [0; 8];
     out.len = frame.bytes.len() as u8;
     copy_into(&mut out.bytes, frame.bytes.as_slice());
@@ -352,7 +352,7 @@ fn session_of(ecu: &Ecu) -> Session
         },
         Some(who) => Session {
             session: ecu.session_of(who),
-            holder: who.place(),
+            holder: who.number(),
         },
     }
 }
@@ -513,7 +513,7 @@ fn set_code(device: &mut Device, code: u32, status: u8) -> u32
     UNKNOWN
 }
 
-/// Gives a DTC another status, as the ECU's own software does; where there is no such code nothing is set.
+/// Gives a DTC another status, as the ECU's own software does; where there is no such DTC nothing is set.
 #[unsafe(no_mangle)]
 pub extern "C" fn uds_unit_set_code(alloc: Global, unit: &mut Handle, code: u32, status: u8) -> u32
     ensures closed { unit.old.unit ≡ None → result ≡ 16 }

@@ -17,7 +17,7 @@ pub const CLOSED: u32 = 16;
 pub const NONE: u32 = 17;
 /// It is no frame of classic CAN.
 pub const NO_FRAME: u32 = 18;
-/// There is no such identifier or code.
+/// There is no such identifier or DTC.
 pub const UNKNOWN: u32 = 19;
 /// The value has another length.
 pub const LENGTH: u32 = 20;

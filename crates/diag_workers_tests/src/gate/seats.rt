@@ -195,7 +195,7 @@ fn has_requests(journal: &Journal, wanted: &[Wanted]) -> bool {
                 return false;
             };
             if functional
-                || entry.who.place() != want.place
+                || entry.who.number() != want.place
                 || bytes != want.request
                 || entry.reply != want.reply
             {

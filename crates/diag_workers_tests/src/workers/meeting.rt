@@ -53,7 +53,7 @@ impl Meeting {
 
 impl Watch for Meeting {
     fn called(&self, who: TesterId) {
-        if who.place() == 1 {
+        if who.number() == 1 {
             self.meet(&self.first, &self.second, self.calls);
         } else {
             self.meet(&self.second, &self.first, 1);

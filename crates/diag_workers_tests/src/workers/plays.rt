@@ -20,7 +20,7 @@ fn is_readers_play(played: &Played) -> bool {
     let [first, second] = played.sent.as_slice() else {
         return false;
     };
-    let is_held = matches!(played.desk.ecu().holder(), Some(who) if who.place() == 1);
+    let is_held = matches!(played.desk.ecu().holder(), Some(who) if who.number() == 1);
     has_first_frames(first.as_slice())
         && has_second_frames(second.as_slice())
         && is_held
@@ -30,7 +30,7 @@ fn is_readers_play(played: &Played) -> bool {
 /// Whether its first two entries are the second tester's.
 fn second_begins(played: &Played) -> bool {
     match (played.desk.journal().get(0), played.desk.journal().get(1)) {
-        (Some(first), Some(second)) => first.who.place() == 2 && second.who.place() == 2,
+        (Some(first), Some(second)) => first.who.number() == 2 && second.who.number() == 2,
         _ => false,
     }
 }

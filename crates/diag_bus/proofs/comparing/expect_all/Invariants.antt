@@ -3,5 +3,5 @@ use Rattle.diag_bus.specs.Comparing.{ExpectsAt}
 use Rattle.diag_bus.proofs.Recordings.{UpTo}
 use Rattle.diag_bus.proofs.comparing.expect_all.Given as goal
 
-abbrev pub invariant-loop-place : goal.invariant-loop-place
-invariant-loop-place l = UpTo (ExpectsAt (map (λ f. f.items) l.drawn)) l.initial.testers.items l.testers.items l.place
+abbrev pub invariant-loop-index : goal.invariant-loop-index
+invariant-loop-index l = UpTo (ExpectsAt (map (λ f. f.items) l.drawn)) l.initial.testers.items l.testers.items l.index

@@ -4,7 +4,7 @@ use Rattle.std.proofs.lemmas.Result.{on_ok_weaker}
 use Rattle.std.specs.Prelude.{◌∷◌, [], IfSome, slice_get, slice_set}
 use Rattle.diag_port.proofs.Within.{none_of}
 use Rattle.diag_bus.specs.Comparing.{EachRecords, Records}
-use Rattle.diag_bus.specs.Requests.{IsWithin}
+use Rattle.diag_bus.specs.RequestIds.{IsWithin}
 use Rattle.diag_bus.specs.Verdict.{at_line, is_pending}
 use Rattle.diag_bus.specs.declared.comparing.Comparison.{Comparison}
 use Rattle.diag_bus.proofs.Recordings.{nobody_records, own_records}
@@ -18,13 +18,13 @@ pub returns-clause-ok : goal.returns-clause-ok
 returns-clause-ok c =
     let testers = c.args.testers.now.items in
     let who = c.in-Some.who in
-    let place = c.index.result in
+    let index = c.index.result in
     let own : Comparison = c.index_mut.result.now in
     let new : Comparison = c.record.new.self in
     let frame = c.args.frame.now in
     let one : IsWithin (length testers) who = subst (λ (r : Option ℕ). IfSome r (IsWithin (length testers))) c.in-Some.is c.requires in
-    let within : place < length testers = omega (arith, one.0, one.1, c.index.ensures.from_one) in
-    let here : slice_get testers place ≡ Some own = slice_get_read testers (length testers) place own refl within c.index_mut.ensures.value in
+    let within : index < length testers = omega (arith, one.0, one.1, c.index.ensures.from_one) in
+    let here : slice_get testers index ≡ Some own = slice_get_read testers (length testers) index own refl within c.index_mut.ensures.value in
     let bytes = c.bytes-bytes.ensures in
     let shown : is_pending frame.bytes ≡ false =
     ap is_pending (sym (c.as_slice.ensures.bytes ∙ bytes)) ∙ (sym c.is_pending.ensures ∙ c.if-is_pending.false) in

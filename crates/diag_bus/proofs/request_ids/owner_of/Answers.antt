@@ -3,7 +3,7 @@ use Rattle.std.proofs.lemmas.Bool.{eqb-false, eqb-true}
 use Rattle.diag_can.specs.declared.frame.Ids.{Ids}
 use Rattle.diag_setup.specs.Setup.{ids_of}
 use Rattle.diag_world.proofs.Worlds.{who_found}
-use Rattle.diag_bus.specs.Requests.{IsOwner}
+use Rattle.diag_bus.specs.RequestIds.{IsOwner}
 use Rattle.diag_bus.specs.declared.request_ids.Owner.{Owner}
 use Rattle.diag_bus.specs.declared.request_ids.Owner.TheVariants.{Tester}
 use Rattle.diag_bus.proofs.Owners.{owner_asks, owner_found, owner_stays}

@@ -1,4 +1,4 @@
-use Rattle.diag_bus.specs.Requests.{IsOwner}
+use Rattle.diag_bus.specs.RequestIds.{IsOwner}
 use Rattle.diag_bus.proofs.request_ids.owner_of.Given as goal
 
 abbrev pub invariant-loop-index : goal.invariant-loop-index

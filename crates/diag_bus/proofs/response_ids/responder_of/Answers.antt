@@ -3,7 +3,7 @@ use Rattle.std.proofs.lemmas.Bool.{eqb-false, eqb-true}
 use Rattle.diag_can.specs.declared.frame.Ids.{Ids}
 use Rattle.diag_setup.specs.Setup.{ids_of}
 use Rattle.diag_world.proofs.Worlds.{who_found}
-use Rattle.diag_bus.specs.Requests.{IsResponder}
+use Rattle.diag_bus.specs.ResponseIds.{IsResponder}
 use Rattle.diag_bus.proofs.Responders.{responder_found, responder_none, responder_stays}
 use Rattle.diag_bus.proofs.response_ids.responder_of.Goals.{then-eq, else-eq}
 use Rattle.diag_bus.proofs.response_ids.responder_of.Goals as goal

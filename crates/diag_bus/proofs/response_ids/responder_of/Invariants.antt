@@ -1,4 +1,4 @@
-use Rattle.diag_bus.specs.Requests.{IsResponder}
+use Rattle.diag_bus.specs.ResponseIds.{IsResponder}
 use Rattle.diag_bus.proofs.response_ids.responder_of.Given as goal
 
 abbrev pub invariant-loop-index : goal.invariant-loop-index

@@ -2,8 +2,8 @@ use Rattle.std.proofs.Common.{◌≤◌, ◌++◌, List, length, ap, subst, sym,
 use Rattle.std.proofs.lemmas.List.Sorted.{All-permutation}
 use Rattle.std.specs.List.{All}
 use Rattle.diag_world.specs.Server.{closing_time}
-use Rattle.diag_bus.specs.Requests.{AreNamesOf}
 use Rattle.diag_bus.specs.Text.{drawn_for, line_of}
+use Rattle.diag_bus.specs.Writing.{AreNamesOf}
 use Rattle.diag_bus.specs.declared.writing.Drawn.{Drawn}
 use Rattle.diag_bus.proofs.Texts.{lines_more}
 use Rattle.diag_bus.proofs.writing.write_batch.Goals as goal
@@ -19,7 +19,7 @@ write_one-requires-clause-tester c =
     c.in_ok-sort_batch.ensures.same c.requires.testers in
     let here = subst (λ (ds : List Drawn). All (λ (d : Drawn). d.who ≤ n) ds) (sym c.as_slice-drawn-items.ensures.value) all in
     let low = subst (λ (d : Drawn). d.who ≤ n) (sym c.drawn-item.is) (here c.loop-drawn.drawn-index one c.loop-drawn-test.true) in
-    omega (arith, low, c.index-place.ensures.from_one)
+    omega (arith, low, c.index-index.ensures.from_one)
 
 pub write_one-requires-clause-sent : goal.write_one-requires-clause-sent
 write_one-requires-clause-sent c =
@@ -38,5 +38,5 @@ loop-drawn-preserved c =
       names = c.write_one.ensures.names ∙ inv.names;
       text = lines_more f c.as_slice-drawn-items.result.now c.loop-drawn.drawn-index one c.args.text.now.items c.loop-drawn.text.items
           c.write_one.new.text.items c.loop-drawn-test.true c.drawn-item.is inv.text
-          (c.in_default.ensures.ok ∙ ap (λ t. c.loop-drawn.text.items ++ f (drawn_for t one.sent)) (sym c.index-place.ensures.from_one));
+          (c.in_default.ensures.ok ∙ ap (λ t. c.loop-drawn.text.items ++ f (drawn_for t one.sent)) (sym c.index-index.ensures.from_one));
     }

@@ -5,5 +5,5 @@ use Rattle.diag_bus.proofs.writing.write_each.Given as goal
 abbrev pub invariant-loop-sent : goal.invariant-loop-sent
 invariant-loop-sent l = record {
   names : l.writers.items ≡ l.fn.writers.items;
-  text : l.text.items ≡ l.fn.text.items ++ own_text l.setup l.clock.start l.place (take l.sent-index l.frames);
+  text : l.text.items ≡ l.fn.text.items ++ own_text l.setup l.clock.start l.index (take l.sent-index l.frames);
 }

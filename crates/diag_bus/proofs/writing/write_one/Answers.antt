@@ -12,7 +12,7 @@ returns-clause-ok c =
     let sent = c.args.sent.now in
     let text = c.args.text.now.items in
     on_ok_weaker c.write.result (λ wrote.
-    let found = slice_get_read names (length names) c.args.place writer refl (omega (arith, c.requires.tester, c.requires.names.many)) c.index_mut.ensures.value in
+    let found = slice_get_read names (length names) c.args.index writer refl (omega (arith, c.requires.tester, c.requires.names.many)) c.index_mut.ensures.value in
     wrote ∙ ap (λ (moment : ℕ). text ++ reply_line writer moment sent.frame) c.bus_moment-moment.ensures
-    ∙ ap (λ (name : List ℕ). text ++ reply_line name (bus_moment c.args.clock.now.start sent.at) sent.frame) (c.requires.names.each c.args.place writer found))
+    ∙ ap (λ (name : List ℕ). text ++ reply_line name (bus_moment c.args.clock.now.start sent.at) sent.frame) (c.requires.names.each c.args.index writer found))
     c.write.ensures.ok

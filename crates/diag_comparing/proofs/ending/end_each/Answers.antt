@@ -6,16 +6,16 @@ use Rattle.std.specs.Prelude.{slice_get}
 use Rattle.diag_pdu.specs.Cut.{counted_from}
 use Rattle.diag_compare.specs.Compare.{open_for}
 use Rattle.diag_compare.specs.Expects.{expects}
-use Rattle.diag_comparing.specs.Keeping.{tester_counts, told_pair}
+use Rattle.diag_comparing.specs.Keeping.{judged_pair, tester_counts}
 use Rattle.diag_world.proofs.Worlds.{who_found}
-use Rattle.diag_judge.specs.Judging.{EndsTold}
+use Rattle.diag_judge.specs.Judging.{EndsJudged}
 use Rattle.diag_judge.specs.declared.tester.Tester.{Tester}
-use Rattle.diag_comparing.proofs.Ends.{end_counted, end_told}
+use Rattle.diag_comparing.proofs.Ends.{end_counted, end_judged}
 use Rattle.diag_comparing.proofs.ending.end_each.Goals as goal
 
 pub loop-index-init : goal.loop-index-init
 loop-index-init c = record {
-  told = λ lines h. sym (append-nil c.args.told.now.items);
+  judged = λ lines h. sym (append-nil c.args.judged.now.items);
   counts = λ lines h. c.new-counts.ensures.items;
   many = ap length c.new-counts.ensures.items;
 }
@@ -29,10 +29,10 @@ loop-index-preserved c =
     let within : i < length testers = omega (arith, c.loop-index-test.true) in
     let here : slice_get testers i ≡ Some own = slice_get_read testers (length testers) i own refl within c.index-testers-index.is in
     let who = who_found setup i c.in-Some.who c.in-Some.ensures in
-    let told = subst (λ t. EndsTold own t c.loop-index.told.items c.end.new.told.items) who c.in_ok-own.ensures.told in
+    let judged = subst (λ t. EndsJudged own t c.loop-index.judged.items c.end.new.judged.items) who c.in_ok-own.ensures.judged in
     record {
-      told = λ lines h. end_told setup lines own i c.args.told.now.items c.loop-index.told.items c.end.new.told.items (h i own here)
-          (c.loop-index.invariant.told lines h) told;
+      judged = λ lines h. end_judged setup lines own i c.args.judged.now.items c.loop-index.judged.items c.end.new.judged.items (h i own here)
+          (c.loop-index.invariant.judged lines h) judged;
       counts = λ lines h. end_counted setup lines own i c.in_ok-own.own c.loop-index.counts.items c.push.new.self.items (h i own here)
           (c.loop-index.invariant.counts lines h) c.in_ok-own.ensures.counts c.in_ok-push.ensures.items;
       many = ap length c.in_ok-push.ensures.items ∙ (length-append c.loop-index.counts.items (c.in_ok-own.own ∷ [])
@@ -42,10 +42,10 @@ loop-index-preserved c =
 all : (c : goal.After-loop-index) → c.loop-index.index ≡ length c.args.setup.now.testers
 all c = omega (arith, c.loop-index-test.false, c.loop-index.auto.index-end, c.requires)
 
-pub returns-clause-told : goal.returns-clause-told
-returns-clause-told c = λ lines h.
-    c.loop-index.invariant.told lines h
-    ∙ ap (λ (n : ℕ). c.args.told.now.items ++ map told_pair (flat_map (open_for (expects c.args.setup.now) c.args.setup.now lines) (counted_from 1 n))) (all c)
+pub returns-clause-judged : goal.returns-clause-judged
+returns-clause-judged c = λ lines h.
+    c.loop-index.invariant.judged lines h
+    ∙ ap (λ (n : ℕ). c.args.judged.now.items ++ map judged_pair (flat_map (open_for (expects c.args.setup.now) c.args.setup.now lines) (counted_from 1 n))) (all c)
 
 pub returns-clause-counts : goal.returns-clause-counts
 returns-clause-counts c = λ lines h.

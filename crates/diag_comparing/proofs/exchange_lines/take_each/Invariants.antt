@@ -4,7 +4,7 @@ use Rattle.diag_pdu.specs.Cut.{counted_from}
 use Rattle.diag_desk.specs.declared.entry.Entry.{Entry}
 use Rattle.diag_compare.specs.Compare.{over_by}
 use Rattle.diag_compare.specs.Expects.{expects}
-use Rattle.diag_comparing.specs.Keeping.{AreTesters, IsLine, told_pair}
+use Rattle.diag_comparing.specs.Keeping.{AreTesters, IsLine, judged_pair}
 use Rattle.diag_comparing.proofs.Takings.{AreTakenTo}
 use Rattle.diag_comparing.proofs.exchange_lines.take_each.Given as goal
 
@@ -15,5 +15,5 @@ invariant-loop-index l = record {
   taken : (lines : List (List ℕ)) (line : List ℕ) (K : List Entry) → IsLine l.setup lines line l.said l.span l.at K
       → AreTesters l.setup lines K l.fn.testers.items
       → AreTakenTo l.setup lines line K l.testers.items l.index
-      × (l.told.items ≡ l.fn.told.items ++ map told_pair (flat_map (over_by (expects l.setup) l.setup lines line) (counted_from 1 l.index)));
+      × (l.judged.items ≡ l.fn.judged.items ++ map judged_pair (flat_map (over_by (expects l.setup) l.setup lines line) (counted_from 1 l.index)));
 }

@@ -1,9 +1,9 @@
 use Rattle.std.proofs.Common.{◌≡◌, ◌⊎◌, ℕ, Option, Some, None, inl, inr, length, ap, refl, subst, sym, ◌∙◌}
-use Rattle.diag_can.specs.declared.bus.BusLine.{BusLine}
-use Rattle.diag_can.specs.declared.bus.BusLine.TheVariants.{Empty, Ticks}
+use Rattle.diag_can.specs.declared.bus_line.BusLine.{BusLine}
+use Rattle.diag_can.specs.declared.bus_line.BusLine.TheVariants.{Empty, Ticks}
 use Rattle.diag_can.specs.declared.frame.Frame.{Frame}
 use Rattle.diag_bus.specs.Events.{frame_said}
-use Rattle.diag_bus.specs.Requests.{IsResponder}
+use Rattle.diag_bus.specs.ResponseIds.{IsResponder}
 use Rattle.diag_comparing.specs.Keeping.{IsUnitFrame}
 use Rattle.diag_comparing.specs.declared.exchange_lines.UnitFrame.{UnitFrame}
 use Rattle.diag_comparing.proofs.UnitFrames.{no_frame, to_each}

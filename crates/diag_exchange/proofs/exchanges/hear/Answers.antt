@@ -1,7 +1,7 @@
 use Rattle.std.proofs.Common.{◌≡◌, Some, arith, false, true, Bool, List, ap, subst, sym, ◌∙◌}
 use Rattle.std.specs.List.{list_any}
 use Rattle.std.specs.Prelude.{if◌then◌else◌}
-use Rattle.diag_exchange.specs.declared.held.Open.{Open}
+use Rattle.diag_exchange.specs.declared.open.Open.{Open}
 use Rattle.diag_exchange.specs.Asking.{change_last}
 use Rattle.diag_exchange.specs.Streaming.{IsLast, hearing, may_hear}
 use Rattle.diag_exchange.proofs.Finding.{any_last, changed_last, within_last}

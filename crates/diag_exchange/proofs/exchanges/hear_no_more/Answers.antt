@@ -1,6 +1,6 @@
 use Rattle.std.proofs.Common.{◌≡◌, Some, false, List, ap, subst, sym, ◌∙◌}
 use Rattle.std.specs.List.{list_any}
-use Rattle.diag_exchange.specs.declared.held.Open.{Open}
+use Rattle.diag_exchange.specs.declared.open.Open.{Open}
 use Rattle.diag_exchange.specs.Streaming.{IsLast, hears_it, hears_no_more}
 use Rattle.diag_exchange.proofs.Finding.{changed_last}
 use Rattle.diag_exchange.proofs.Lists.{change_none}

@@ -1,7 +1,7 @@
 use Rattle.std.proofs.lemmas.Option.{same_Some, slice_get_read}
 use Rattle.std.proofs.lemmas.List.{map-append}
 use Rattle.std.specs.Prelude.{slice_get}
-use Rattle.diag_exchange.specs.declared.held.Open.{Open}
+use Rattle.diag_exchange.specs.declared.open.Open.{Open}
 use Rattle.diag_exchange.specs.declared.happening.Over.{Over}
 use Rattle.std.proofs.Common.{true, false, ap₂, subst, Vec, Global, ◌≡◌, ◌<◌, ◌≤◌, ◌+◌, ◌++◌, ◌∷◌, [], List, Some, map, length, vec_len, vec_capacity, ap, sym, refl, ◌∙◌, append_assoc, arith}
 use Rattle.std.specs.List.{remove}

@@ -14,7 +14,7 @@ loop-turn-init c = record {
   left = ap reverse c.reverse.ensures.items ∙ reverse-reverse c.args.entered.now.items;
   many = omega (arith, c.reverse.ensures.len);
   heard = λ E hs l. (subst (λ (w : List Happening). Listens c.args.listener.now E w) (sym (append-nil hs)) l, sym (append-nil c.args.over.now.items));
-  side = refl;
+  link_setup = refl;
 }
 
 pub loop-turn-preserved : goal.loop-turn-preserved
@@ -34,7 +34,7 @@ loop-turn-preserved c =
           (request_heard
           c.args.setup.now c.args.at c.loop-turn.listener c.ask.new.self c.args.over.now.items c.loop-turn.over.items c.ask.new.over.items (take n old) one
           c.in_ok-request.request E hs c.in_ok-request.ensures c.in_ok-ask.ensures.heard (inv.heard E hs l));
-      side = c.ask.ensures.side ∙ inv.side;
+      link_setup = c.ask.ensures.setup ∙ inv.link_setup;
     }
 
 pub returns-clause-heard : goal.returns-clause-heard

@@ -15,5 +15,5 @@ invariant-loop-turn l = record {
   heard : (E : List Event) (hs : List Happening) → Listens l.fn.listener E hs
       → Listens l.listener E (hs ++ requests_happen l.setup l.at (take l._turn l.fn.entered.items))
       × (l.over.items ≡ l.fn.over.items ++ over_after hs (requests_happen l.setup l.at (take l._turn l.fn.entered.items)));
-  side : l.listener.side ≡ l.fn.listener.side;
+  link_setup : l.listener.setup ≡ l.fn.listener.setup;
 }

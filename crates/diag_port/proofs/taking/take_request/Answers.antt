@@ -6,7 +6,7 @@ use Rattle.diag_tp.specs.declared.sent.Sent.{Sent}
 use Rattle.diag_tp.specs.Gives.{gives}
 use Rattle.diag_tp.specs.Link.{EachHistory, asked_of}
 use Rattle.diag_port.specs.declared.port.Port.{Port}
-use Rattle.diag_port.specs.Placing.{sid_of}
+use Rattle.diag_port.specs.Releasing.{sid_of}
 use Rattle.diag_port.specs.Port.{Grew, Received, port_of}
 use Rattle.diag_port.specs.Standing.{TookEvent, timed_asks}
 use Rattle.diag_port.proofs.Standing.{frame_took}

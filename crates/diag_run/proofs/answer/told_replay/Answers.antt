@@ -1,6 +1,8 @@
-use Rattle.std.proofs.Common.{◌++◌}
+use Rattle.std.proofs.Common.{◌++◌, ◌∙◌, sym}
 use Rattle.std.proofs.lemmas.Result.{err_from_is_err_and}
-use Rattle.diag_run.proofs.Replays.{replayable}
+use Rattle.diag_text.specs.declared.fault.RunFault.TheVariants.{Read}
+use Rattle.diag_run.proofs.Pieces.{err_same}
+use Rattle.diag_run.proofs.Replays.{replay_stops, replayable, text_fault_own}
 use Rattle.diag_run.proofs.answer.told_replay.Goals as goal
 
 pub returns-in_err-text-in-Ok-clause-gives : goal.returns-in_err-text-in-Ok-clause-gives
@@ -15,10 +17,10 @@ returns-in_err-one_part-in-Ok-clause-gives c = λ seen h.
     let p = err_from_is_err_and c.from_residual-in_err-one_part-in-Ok.result c.from_residual-in_err-one_part-in-Ok.ensures.1 in
     rw (p.1, p.2) (replayable setup (seen ++ c.args.begun.now) c.in-Ok.replayed.entries c.in-Ok.replayed.ecu (c.in-Ok.ensures.ok setup seen h))
 
-pub returns-in-Err-Differs-clause-gives : goal.returns-in-Err-Differs-clause-gives
-returns-in-Err-Differs-clause-gives c = λ seen h.
-    rw c.in-Err-Differs.n-is (c.in-Err-Differs.ensures.differs c.in-Err-Differs.n c.in-Err-Differs.field-0-is c.args.setup.now seen h)
+pub returns-in-Err-clause-gives : goal.returns-in-Err-clause-gives
+returns-in-Err-clause-gives c = λ seen h.
+    rw c.from.ensures (replay_stops c.args.setup.now (seen ++ c.args.begun.now) c.in-Err.fault
+    (λ n is. c.in-Err.ensures.line n is c.args.setup.now seen h) (λ n is. c.in-Err.ensures.differs n is c.args.setup.now seen h))
 
-pub returns-in-Err-Line-clause-gives : goal.returns-in-Err-Line-clause-gives
-returns-in-Err-Line-clause-gives c = λ seen h.
-    rw c.in-Err-Line.n-is (c.in-Err-Line.ensures.line c.in-Err-Line.n c.in-Err-Line.field-0-is c.args.setup.now seen h)
+pub returns-in-Err-clause-device : goal.returns-in-Err-clause-device
+returns-in-Err-clause-device c = λ n is. text_fault_own c.in-Err.fault n (sym c.from.ensures ∙ err_same c.from.result (Read n) is)

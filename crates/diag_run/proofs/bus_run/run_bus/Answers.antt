@@ -1,9 +1,11 @@
 use Rattle.diag_run.specs.Wanted.{wanted}
-use Rattle.diag_run.proofs.Pieces.{want_same}
-use Rattle.std.proofs.Common.{inl, inr, refl}
+use Rattle.diag_run.proofs.Pieces.{err_same, ok_is_no_fault, other_fault, same_fault, want_same}
+use Rattle.std.proofs.Common.{◌≡◌, arith, inl, inr, refl, sym, ◌∙◌}
 use Rattle.std.proofs.KnownBytes.{Keeps-refl}
 use Rattle.std.proofs.lemmas.Result.{err_from_is_err_and}
-use Rattle.diag_run.proofs.Following.{followed, refused_behind, stops_reading}
+use Rattle.diag_run.proofs.Following.{config_writes_not, followed, of_the_capture, read_is, refused_behind, stops_reading, write_is}
+use Rattle.diag_run.specs.declared.capture.CaptureFault.TheVariants as capture
+use Rattle.diag_text.specs.declared.fault.RunFault.TheVariants as run_fault
 use Rattle.diag_run.proofs.bus_run.run_bus.Goals as goal
 
 pub returns-in_err-setup-clause-fault : goal.returns-in_err-setup-clause-fault
@@ -26,3 +28,66 @@ returns-in-Err-clause-fault g c =
     rw c.run_fault.ensures
     (inr (stops_reading g.S.Sink g.S.Sink.took g.S.Sink.aim g.S.Sink.written g.S.Ending.ends (wanted g.S.Sink.written g.S.Ending.ends g.S.Sink.aim c.args.sink) _ c.in_ok-setup.setup _ (want_same g.S.Sink g.S.Sink.took g.S.Sink.aim g.S.Sink.written g.S.Ending.ends g.met.S.Ending.ends_as_asked c.in_ok-bus.bus.sink c.args.sink c.in_ok-bus.ensures.aim) c.in_ok-bus.ensures.setup _ _ _ _ _ _ c.in_ok-setup.ensures.says
     c.in-Err.fault c.in-Err.ensures.fault))
+
+-- the config is at fault
+pub returns-in_err-setup-clause-config : goal.returns-in_err-setup-clause-config
+returns-in_err-setup-clause-config g c =
+    let p = err_from_is_err_and c.from_residual.result c.from_residual.ensures.1 in
+    λ is. c.read_config.ensures.failed 0 (same_fault c.read_config.result c.from_residual.result _ _ (run_fault.Read 0) c.in_err-setup.was p.1 (sym p.2) is)
+
+pub returns-in_err-setup-clause-read : goal.returns-in_err-setup-clause-read
+returns-in_err-setup-clause-read g c =
+    let p = err_from_is_err_and c.from_residual.result c.from_residual.ensures.1 in
+    λ is. absurd (let clash : 1 ≡ 0 = c.read_config.ensures.device 1 (same_fault c.read_config.result c.from_residual.result _ _ (run_fault.Read 1) c.in_err-setup.was p.1 (sym p.2) is) in
+    omega (arith, clash))
+
+pub returns-in_err-setup-clause-write : goal.returns-in_err-setup-clause-write
+returns-in_err-setup-clause-write g c =
+    let p = err_from_is_err_and c.from_residual.result c.from_residual.ensures.1 in
+    λ is. absurd (config_writes_not _ _ c.in_err-setup.field-0.0 c.in_err-setup.ensures.ends (sym p.2 ∙ err_same p.0 run_fault.Write (sym p.1 ∙ is)))
+
+-- memory was refused behind it
+pub returns-in_err-bus-clause-config : goal.returns-in_err-bus-clause-config
+returns-in_err-bus-clause-config g c =
+    let p = err_from_is_err_and c.from_residual-in_err-bus.result c.from_residual-in_err-bus.ensures.1 in
+    λ is. absurd (other_fault c.from_residual-in_err-bus.result p.0 run_fault.Memory (run_fault.Read 0) p.1 p.2 (λ same. cc) is)
+
+pub returns-in_err-bus-clause-read : goal.returns-in_err-bus-clause-read
+returns-in_err-bus-clause-read g c =
+    let p = err_from_is_err_and c.from_residual-in_err-bus.result c.from_residual-in_err-bus.ensures.1 in
+    λ is. absurd (other_fault c.from_residual-in_err-bus.result p.0 run_fault.Memory (run_fault.Read 1) p.1 p.2 (λ same. cc) is)
+
+pub returns-in_err-bus-clause-write : goal.returns-in_err-bus-clause-write
+returns-in_err-bus-clause-write g c =
+    let p = err_from_is_err_and c.from_residual-in_err-bus.result c.from_residual-in_err-bus.ensures.1 in
+    λ is. absurd (other_fault c.from_residual-in_err-bus.result p.0 run_fault.Memory run_fault.Write p.1 p.2 (λ same. cc) is)
+
+-- the capture went by
+pub returns-in-Ok-clause-sound : goal.returns-in-Ok-clause-sound
+returns-in-Ok-clause-sound g c = λ other. c.run_capture.ensures.sound (ok_is_no_fault c.run_capture.result _ capture.Read c.in-Ok.is)
+
+pub returns-in-Ok-clause-unfailed : goal.returns-in-Ok-clause-unfailed
+returns-in-Ok-clause-unfailed g c = λ other. c.run_capture.ensures.unfailed (ok_is_no_fault c.run_capture.result _ capture.Write c.in-Ok.is)
+
+-- it is at fault
+pub returns-in-Err-clause-config : goal.returns-in-Err-clause-config
+returns-in-Err-clause-config g c = λ is.
+    absurd (of_the_capture c.in-Err.fault (sym c.run_fault.ensures ∙ err_same c.run_fault.result (run_fault.Read 0) is))
+
+pub returns-in-Err-clause-read : goal.returns-in-Err-clause-read
+returns-in-Err-clause-read g c = λ is.
+    let read = read_is c.in-Err.fault 1 (sym c.run_fault.ensures ∙ err_same c.run_fault.result (run_fault.Read 1) is) in
+    c.run_capture.ensures.read (rw (c.in-Err.is, read) refl)
+
+pub returns-in-Err-clause-sound : goal.returns-in-Err-clause-sound
+returns-in-Err-clause-sound g c = λ other. c.run_capture.ensures.sound
+    (λ is. let same : c.in-Err.fault ≡ capture.Read = err_same c.in-Err.fault capture.Read (sym c.in-Err.is ∙ is) in other (rw (c.run_fault.ensures, same) refl))
+
+pub returns-in-Err-clause-write : goal.returns-in-Err-clause-write
+returns-in-Err-clause-write g c = λ is.
+    let write = write_is c.in-Err.fault (sym c.run_fault.ensures ∙ err_same c.run_fault.result run_fault.Write is) in
+    c.run_capture.ensures.write (rw (c.in-Err.is, write) refl)
+
+pub returns-in-Err-clause-unfailed : goal.returns-in-Err-clause-unfailed
+returns-in-Err-clause-unfailed g c = λ other. c.run_capture.ensures.unfailed
+    (λ is. let same : c.in-Err.fault ≡ capture.Write = err_same c.in-Err.fault capture.Write (sym c.in-Err.is ∙ is) in other (rw (c.run_fault.ensures, same) refl))

@@ -65,3 +65,9 @@ returns-in-Err-Memory-clause-ends g c = (
       c.loop-index.invariant.rest _ (omega (arith, c.loop-index.invariant.same)) c.loop-index.invariant.each c.loop-index.invariant.within _
       (c.in-Err-Memory.ensures.refused (search rules)),
 )
+
+pub returns-in-Err-Device-clause-failed : goal.returns-in-Err-Device-clause-failed
+returns-in-Err-Device-clause-failed g c = λ n is. (c.read_into.new.reader, c.in-Err-Device.ensures.failed (search rules))
+
+pub returns-in-Err-Memory-clause-memory : goal.returns-in-Err-Memory-clause-memory
+returns-in-Err-Memory-clause-memory g c = λ is. (c.read_into.new.taker, c.in-Err-Memory.ensures.memory (search rules))

@@ -9,5 +9,5 @@ pub returns-else-more : goal.returns-else-more
 returns-else-more c =
     let items = c.args.items.now in
     let p = c.args.p.now in
-    let end = fits_end items c.args.more p c.loop-place.place (omega arith) (omega arith) (omega arith) in
-    sym (c.loop-place.invariant ∙ (end ∙ ap (λ b. b || (length p == length items)) c.if-more.false))
+    let end = fits_end items c.args.more p c.loop-index.index (omega arith) (omega arith) (omega arith) in
+    sym (c.loop-index.invariant ∙ (end ∙ ap (λ b. b || (length p == length items)) c.if-more.false))

@@ -1,7 +1,7 @@
 use Rattle.std.proofs.Common.{subst, sym, ◌∙◌, arith}
 use Rattle.std.proofs.lemmas.List.{length-map}
 use Rattle.diag_port.specs.Port.{port_of}
-use Rattle.diag_bus.specs.Batch.{StartsBelow, moment_end}
+use Rattle.diag_bus.specs.Clock.{StartsBelow, moment_end}
 use Rattle.diag_bus.specs.declared.clock.Clock.{Clock}
 use Rattle.diag_bus.proofs.bus.Bus.new.Goals as goal
 

@@ -4,9 +4,10 @@ use Rattle.std.specs.List.{flat_map}
 use Rattle.diag_can.specs.declared.frame.Event.{Event}
 use Rattle.diag_pdu.specs.Cut.{counted_from}
 use Rattle.diag_world.specs.Server.{each_of}
-use Rattle.diag_bus.specs.Batch.{Gave, TookTime, moment_end}
 use Rattle.diag_bus.specs.Bus.{AreSound}
+use Rattle.diag_bus.specs.Clock.{moment_end}
 use Rattle.diag_bus.specs.Events.{frame_said, frame_to, said_gives}
+use Rattle.diag_bus.specs.Node.{Gave, TookTime}
 use Rattle.diag_bus.proofs.Taking.{is_ready, said_inside, sent_in_time, sound_taken, took_line, well_time}
 use Rattle.diag_bus.proofs.Stamps.{bus_line_low}
 use Rattle.diag_bus.proofs.bus.Bus.take.Given.{Over}

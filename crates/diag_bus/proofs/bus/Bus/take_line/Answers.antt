@@ -1,5 +1,5 @@
 use Rattle.std.proofs.Common.{◌≡◌, Ok, ap, sym, ◌∙◌}
-use Rattle.diag_can.specs.Bus.{bus_line}
+use Rattle.diag_can.specs.BusLine.{bus_line}
 use Rattle.diag_setup.specs.Setup.{known_ids}
 use Rattle.diag_bus.specs.Events.{line_said}
 use Rattle.diag_bus.proofs.Taking.{said_inside}

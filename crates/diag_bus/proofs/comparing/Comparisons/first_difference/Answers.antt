@@ -8,7 +8,7 @@ use Rattle.diag_bus.specs.Comparing.{earlier_of}
 use Rattle.diag_bus.specs.Verdict.{difference_of, earlier, expected, recorded}
 use Rattle.diag_bus.specs.declared.comparing.Comparison.{Comparison}
 use Rattle.diag_bus.specs.declared.verdict.Difference.{Difference}
-use Rattle.diag_bus.proofs.Verdicts.{earlier_more, place_more}
+use Rattle.diag_bus.proofs.Verdicts.{earlier_more, number_more}
 use Rattle.diag_bus.proofs.comparing.Comparisons.first_difference.Goals as goal
 
 pub loop-index-preserved : goal.loop-index-preserved
@@ -26,4 +26,4 @@ loop-index-preserved c = λ lines h.
     let ds = filter_map (difference_of setup lines) (counted_from 1 i) in
     c.earlier-first.ensures
     ∙ (ap₂ earlier_of (c.loop-index.invariant lines h) known
-    ∙ (earlier_more ds (difference_of setup lines (i + 1)) ∙ ap (reduce earlier) (sym (place_more (difference_of setup lines) i))))
+    ∙ (earlier_more ds (difference_of setup lines (i + 1)) ∙ ap (reduce earlier) (sym (number_more (difference_of setup lines) i))))

@@ -8,7 +8,7 @@ use Rattle.diag_bus.specs.Verdict.{expected, lack_of, recorded}
 use Rattle.diag_bus.specs.declared.comparing.Comparison.{Comparison}
 use Rattle.diag_bus.specs.declared.verdict.Verdict.{Verdict}
 use Rattle.diag_bus.specs.declared.verdict.Verdict.TheVariants.{Lacks}
-use Rattle.diag_bus.proofs.Verdicts.{no_difference, place_more, verdict_lacks}
+use Rattle.diag_bus.proofs.Verdicts.{no_difference, number_more, verdict_lacks}
 use Rattle.diag_bus.proofs.comparing.Comparisons.first_lack.Goals as goal
 
 pub returns-in-Some-lack : goal.returns-in-Some-lack
@@ -43,4 +43,4 @@ loop-index-preserved c = λ lines h none.
     let next : slice_get (expected setup lines (i + 1)) (length (recorded setup lines (i + 1))) ≡ None =
     sym (c.lack.ensures (recorded setup lines (i + 1)) (expected setup lines (i + 1)) (h.each i own here) (no_difference setup lines i none less)) ∙ missing in
     let at : lack_of setup lines (i + 1) ≡ None = ap (option_map (Lacks (i + 1) (length (recorded setup lines (i + 1))))) next in
-    place_more (lack_of setup lines) i ∙ ap₂ (λ (xs : List Verdict) (o : Option Verdict). xs ++ option_to_list o) (c.loop-index.invariant lines h none) at
+    number_more (lack_of setup lines) i ∙ ap₂ (λ (xs : List Verdict) (o : Option Verdict). xs ++ option_to_list o) (c.loop-index.invariant lines h none) at

@@ -1,12 +1,12 @@
 use Rattle.std.proofs.Common.{◌≡◌, ◌⊎◌, ℕ, Some, None, Vec, Global, inl, inr, length, ap, subst, sym, ◌∙◌}
 use Rattle.std.proofs.lemmas.List.{length-map}
 use Rattle.std.proofs.lemmas.Result.{on_ok_weaker}
-use Rattle.diag_can.specs.declared.bus.BusLine.{BusLine}
-use Rattle.diag_can.specs.declared.bus.BusLine.TheVariants.{Empty, Ticks}
+use Rattle.diag_can.specs.declared.bus_line.BusLine.{BusLine}
+use Rattle.diag_can.specs.declared.bus_line.BusLine.TheVariants.{Empty, Ticks}
 use Rattle.diag_tp.specs.declared.sent.Sent.{Sent}
-use Rattle.diag_bus.specs.Batch.{lists_of}
 use Rattle.diag_bus.specs.Events.{frame_said}
-use Rattle.diag_bus.specs.Requests.{IsResponder}
+use Rattle.diag_bus.specs.Node.{lists_of}
+use Rattle.diag_bus.specs.ResponseIds.{IsResponder}
 use Rattle.diag_bus.proofs.Recordings.{no_records, took_line}
 use Rattle.diag_bus.proofs.comparing.Comparisons.take_line.Goals as goal
 

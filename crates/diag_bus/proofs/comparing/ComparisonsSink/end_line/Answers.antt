@@ -1,6 +1,6 @@
 use Rattle.std.proofs.Common.{[], append-nil, subst, sym, refl, ◌∙◌}
 use Rattle.std.proofs.lemmas.Result.{on_ok_weaker}
-use Rattle.diag_bus.specs.Requests.{AreResponsesOf}
+use Rattle.diag_bus.specs.ResponseIds.{AreResponsesOf}
 use Rattle.diag_bus.specs.declared.response_ids.ResponseIds.{ResponseIds}
 use Rattle.diag_bus.proofs.comparing.ComparisonsSink.end_line.Goals as goal
 

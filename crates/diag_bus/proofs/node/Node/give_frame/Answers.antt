@@ -1,8 +1,8 @@
 use Rattle.std.proofs.Common.{◌-◌, ◌∷◌, [], ℕ, List, length, refl, ap, subst, sym, arith}
 use Rattle.diag_can.specs.declared.frame.Event.TheVariants.{Physical}
 use Rattle.std.proofs.lemmas.Result.{on_ok_weaker}
-use Rattle.diag_bus.specs.Batch.{Gave}
-use Rattle.diag_bus.specs.Requests.{IsOwner, given}
+use Rattle.diag_bus.specs.Node.{Gave}
+use Rattle.diag_bus.specs.RequestIds.{IsOwner, given}
 use Rattle.diag_bus.specs.declared.request_ids.Owner.{Owner}
 use Rattle.diag_bus.specs.declared.request_ids.Owner.TheVariants as owner
 use Rattle.diag_bus.proofs.Passing.{passed_as, passed_none, passed_one, stays_kept}

@@ -1,8 +1,8 @@
 use Rattle.std.proofs.Common.{◌≡◌, length, refl, ap, sym, arith}
 use Rattle.std.proofs.lemmas.Result.{err_from_is_err_and}
 use Rattle.diag_world.proofs.Worlds.{who_found}
-use Rattle.diag_bus.specs.Requests.{functional_to_all}
-use Rattle.diag_bus.proofs.Batches.{functional_more}
+use Rattle.diag_bus.specs.RequestIds.{functional_to_all}
+use Rattle.diag_bus.proofs.Nodes.{functional_more}
 use Rattle.diag_bus.proofs.Paces.{has_left}
 use Rattle.diag_bus.proofs.Passing.{passed_as, passed_err, passed_none, passed_then, stays_kept}
 use Rattle.diag_bus.proofs.node.Node.give_functional.Goals as goal

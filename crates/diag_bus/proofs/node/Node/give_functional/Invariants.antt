@@ -1,7 +1,7 @@
 use Rattle.std.proofs.Common.{Ok}
 use Rattle.std.specs.declared.alloc.AllocError.{AllocError}
-use Rattle.diag_bus.specs.Batch.{Passed}
-use Rattle.diag_bus.specs.Requests.{functional_to_all}
+use Rattle.diag_bus.specs.Node.{Passed}
+use Rattle.diag_bus.specs.RequestIds.{functional_to_all}
 use Rattle.diag_bus.specs.Sink.{StaysFor}
 use Rattle.diag_bus.proofs.node.Node.give_functional.Given as goal
 

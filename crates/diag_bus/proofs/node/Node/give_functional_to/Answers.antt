@@ -4,8 +4,8 @@ use Rattle.std.proofs.lemmas.Result.{on_ok_weaker}
 use Rattle.diag_can.specs.declared.frame.Event.TheVariants.{Functional}
 use Rattle.diag_can.specs.declared.frame.Ids.{Ids}
 use Rattle.diag_setup.specs.Setup.{ids_of}
-use Rattle.diag_bus.specs.Batch.{Gave}
-use Rattle.diag_bus.specs.Requests.{functional_to}
+use Rattle.diag_bus.specs.Node.{Gave}
+use Rattle.diag_bus.specs.RequestIds.{functional_to}
 use Rattle.diag_bus.proofs.Passing.{passed_as, passed_one}
 use Rattle.diag_bus.proofs.node.Node.give_functional_to.Goals as goal
 

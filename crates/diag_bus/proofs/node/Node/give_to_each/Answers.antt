@@ -2,8 +2,8 @@ use Rattle.std.proofs.Common.{◌≡◌, ◌+◌, ◌-◌, length, subst, sym, a
 use Rattle.diag_world.proofs.Waiting.{each_more}
 use Rattle.diag_world.proofs.Worlds.{who_found}
 use Rattle.diag_world.specs.Server.{each_of}
-use Rattle.diag_bus.specs.Batch.{Gave}
-use Rattle.diag_bus.proofs.Batches.{gave_more, gave_none, same_more, same_none}
+use Rattle.diag_bus.specs.Node.{Gave}
+use Rattle.diag_bus.proofs.Nodes.{gave_more, gave_none, same_more, same_none}
 use Rattle.diag_bus.proofs.Passing.{stays_kept}
 use Rattle.diag_bus.proofs.Paces.{lasts, sent_none, sent_some, some_all, some_more, some_none}
 use Rattle.diag_bus.proofs.node.Node.give_to_each.Goals as goal
@@ -40,17 +40,17 @@ loop-index-preserved g c =
     let mid = c.loop-index.self in
     let new = c.give.new.self in
     let inv = c.loop-index.invariant in
-    let place = c.in-Some.who - 1 in
+    let index = c.in-Some.who - 1 in
     let who = who_found c.args.setup.now c.loop-index.index c.in-Some.who c.in-Some.ensures in
-    let here : place ≡ c.loop-index.index = omega (arith, who) in
+    let here : index ≡ c.loop-index.index = omega (arith, who) in
     record {
       shape = same_more old mid new inv.shape c.give.ensures.shape;
       kept = (stays_kept g.S.Sink.is_for g.S.Sink.aim).more inv.kept c.give.ensures.kept;
       gave = subst (λ L. Gave g.S.Sink.took old c.args.sink.now new c.give.new.sink L) (sym (each_more c.loop-index.index c.args.event.now c.in-Some.who who))
           (gave_more g.S.Sink.took inv.gave c.in_ok-give.ensures.ok);
-      pace = λ span most. some_more old.server mid.server new.server c.loop-index.index place span here (inv.pace span most)
+      pace = λ span most. some_more old.server mid.server new.server c.loop-index.index index span here (inv.pace span most)
           (c.give.ensures.pace span most);
-      sent = λ span most. sent_some old mid new c.loop-index.index place span here (inv.pace span most) (inv.sent span most)
+      sent = λ span most. sent_some old mid new c.loop-index.index index span here (inv.pace span most) (inv.sent span most)
           (c.in_ok-give.ensures.sent span most);
     }
 

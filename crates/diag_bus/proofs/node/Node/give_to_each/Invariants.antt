@@ -1,6 +1,6 @@
 use Rattle.std.proofs.Common.{ℕ}
 use Rattle.diag_world.specs.Server.{each_of}
-use Rattle.diag_bus.specs.Batch.{Gave, Lasts, SameShape, SentIn}
+use Rattle.diag_bus.specs.Node.{Gave, Lasts, SameShape, SentIn}
 use Rattle.diag_bus.specs.Sink.{StaysFor}
 use Rattle.diag_bus.proofs.Paces.{SomeWentOn}
 use Rattle.diag_bus.proofs.node.Node.give_to_each.Given as goal

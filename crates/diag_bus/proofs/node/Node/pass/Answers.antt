@@ -3,7 +3,7 @@ use Rattle.std.proofs.lemmas.Bool.{false≢true}
 use Rattle.std.specs.List.{flat_map}
 use Rattle.diag_can.specs.Log.{waited}
 use Rattle.diag_world.specs.Server.{each_of}
-use Rattle.diag_bus.proofs.Batches.{waited_few}
+use Rattle.diag_bus.proofs.Nodes.{waited_few}
 use Rattle.diag_bus.proofs.Passing.{passed_as, passed_none, stays_kept}
 use Rattle.diag_bus.proofs.node.Node.pass.Goals as goal
 

@@ -5,7 +5,7 @@ use Rattle.std.specs.List.{flat_map}
 use Rattle.std.specs.Prelude.{replicate, ◌/◌, ◌%◌}
 use Rattle.diag_can.specs.declared.frame.Event.TheVariants.{Ticks}
 use Rattle.diag_world.specs.Server.{each_of}
-use Rattle.diag_bus.proofs.Batches.{parts_more, rest_more, waited_whole, waited_rest}
+use Rattle.diag_bus.proofs.Nodes.{parts_more, rest_more, waited_whole, waited_rest}
 use Rattle.diag_bus.proofs.Paces.{has_left}
 use Rattle.diag_bus.proofs.Passing.{passed_as, passed_err, passed_none, passed_then, stays_kept}
 use Rattle.diag_bus.proofs.node.Node.pass_parts.Goals as goal

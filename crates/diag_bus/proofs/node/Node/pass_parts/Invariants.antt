@@ -4,7 +4,7 @@ use Rattle.std.specs.Prelude.{replicate}
 use Rattle.std.specs.declared.alloc.AllocError.{AllocError}
 use Rattle.diag_can.specs.declared.frame.Event.TheVariants.{Ticks}
 use Rattle.diag_world.specs.Server.{each_of}
-use Rattle.diag_bus.specs.Batch.{Passed}
+use Rattle.diag_bus.specs.Node.{Passed}
 use Rattle.diag_bus.specs.Sink.{StaysFor}
 use Rattle.diag_bus.proofs.node.Node.pass_parts.Given as goal
 

@@ -1,10 +1,10 @@
 use Rattle.std.proofs.Common.{◌≡◌, refl, ap, length, sym, ◌∙◌, arith}
 use Rattle.std.specs.List.{flat_map}
-use Rattle.diag_can.specs.declared.bus.BusLine.TheVariants.{Stamped}
+use Rattle.diag_can.specs.declared.bus_line.BusLine.TheVariants.{Stamped}
 use Rattle.diag_can.specs.declared.frame.Frame.{Frame}
 use Rattle.diag_pdu.specs.Cut.{counted_from}
 use Rattle.diag_bus.specs.Events.{frame_said, frame_to}
-use Rattle.diag_bus.specs.Requests.{IsOwner, given}
+use Rattle.diag_bus.specs.RequestIds.{IsOwner, given}
 use Rattle.diag_bus.proofs.Paces.{has_left}
 use Rattle.diag_bus.proofs.Passing.{no_frame, passed_as, passed_quiet, passed_then, stays_kept}
 use Rattle.diag_bus.proofs.node.Node.take.Goals as goal

@@ -8,8 +8,8 @@ use Rattle.std.specs.Option.{option_map}
 use Rattle.std.specs.Prelude.{slice_get}
 use Rattle.diag_tp.specs.declared.sent.Sent.{Sent}
 use Rattle.diag_world.specs.Server.{closing_time}
-use Rattle.diag_bus.specs.Batch.{lists_of}
-use Rattle.diag_bus.specs.Requests.{AreFilled}
+use Rattle.diag_bus.specs.Filled.{AreFilled}
+use Rattle.diag_bus.specs.Node.{lists_of}
 use Rattle.diag_bus.specs.Text.{own_text}
 use Rattle.diag_bus.specs.declared.filled.Filled.{Filled}
 use Rattle.diag_bus.specs.declared.filled.Filled.TheVariants.{At}
@@ -23,15 +23,15 @@ returns-in-Nowhere-clause-ok c =
     sym (append-nil text) ∙ ap (λ w. text ++ w)
     (none_written c.args.setup.now c.args.clock.now.start lists (subst (λ (f : Filled). AreFilled f lists) c.in-Nowhere.is c.requires.drawn.filled))
 
-filled : (c : goal.After-write_own-arg-in-At-1) → AreFilled (At c.in-At.place) (lists_of c.args.drawn.now)
+filled : (c : goal.After-write_own-arg-in-At-1) → AreFilled (At c.in-At.index) (lists_of c.args.drawn.now)
 filled c = subst (λ (f : Filled). AreFilled f (lists_of c.args.drawn.now)) c.in-At.is c.requires.drawn.filled
 
 -- the list with the frames
-there : (c : goal.After-write_own-arg-in-At-1) → (list : Vec Sent Global) → list ≡ get_or c.args.drawn.now.lists.items c.in-At.place list
-    → slice_get c.args.drawn.now.lists.items c.in-At.place ≡ Some list
+there : (c : goal.After-write_own-arg-in-At-1) → (list : Vec Sent Global) → list ≡ get_or c.args.drawn.now.lists.items c.in-At.index list
+    → slice_get c.args.drawn.now.lists.items c.in-At.index ≡ Some list
 there c list read =
     let drawn = c.args.drawn.now.lists.items in
-    slice_get_read drawn (length drawn) c.in-At.place list refl
+    slice_get_read drawn (length drawn) c.in-At.index list refl
     (omega (arith, (filled c).0, length-map drawn (λ (f : Vec Sent Global). f.items))) read
 
 -- which are in order
@@ -47,14 +47,14 @@ pub write_own-requires : goal.write_own-requires
 write_own-requires c =
     let items = λ (f : Vec Sent Global). f.items in
     let list = c.index-in-At.result.now in
-    let found : slice_get (lists_of c.args.drawn.now) c.in-At.place ≡ Some list.items =
-    slice_get-map items c.args.drawn.now.lists.items c.in-At.place ∙ ap (option_map items) (there c list c.index-in-At.ensures) in
+    let found : slice_get (lists_of c.args.drawn.now) c.in-At.index ≡ Some list.items =
+    slice_get-map items c.args.drawn.now.lists.items c.in-At.index ∙ ap (option_map items) (there c list c.index-in-At.ensures) in
     record {
       names = c.requires.names;
       tester = omega (arith, (filled c).0, length-map c.args.drawn.now.lists.items items, c.requires.drawn.lists);
       start = c.requires.drawn.start;
       sent = subst (λ (fs : List Sent). All (λ (f : Sent). f.at ≤ closing_time) fs) (sym c.as_slice-frames.ensures.value)
-          (c.requires.drawn.sent c.in-At.place list.items found);
+          (c.requires.drawn.sent c.in-At.index list.items found);
     }
 
 pub returns-in-At-clause-ok : goal.returns-in-At-clause-ok
@@ -64,9 +64,9 @@ returns-in-At-clause-ok c =
     let start = c.args.clock.now.start in
     let text = c.args.text.now.items in
     let list = c.index-in-At.result.now in
-    let place = c.in-At.place in
+    let index = c.in-At.index in
     on_ok_weaker c.write_own.result (λ wrote.
-    wrote ∙ ap (λ (fs : List Sent). text ++ own_text setup start place fs) c.as_slice-frames.ensures.value
-    ∙ ap (λ w. text ++ w) (own_written setup start place drawn.lists.items list (there c.before.before list c.index-in-At.ensures)
+    wrote ∙ ap (λ (fs : List Sent). text ++ own_text setup start index fs) c.as_slice-frames.ensures.value
+    ∙ ap (λ w. text ++ w) (own_written setup start index drawn.lists.items list (there c.before.before list c.index-in-At.ensures)
     (up c.before.before) (filled c.before.before)))
     c.write_own.ensures.ok

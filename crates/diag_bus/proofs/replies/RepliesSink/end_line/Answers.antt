@@ -1,6 +1,6 @@
 use Rattle.std.proofs.Common.{◌++◌, ap, sym, ◌∙◌}
 use Rattle.std.proofs.lemmas.Result.{on_ok_weaker}
-use Rattle.diag_bus.specs.Batch.{lists_of}
+use Rattle.diag_bus.specs.Node.{lists_of}
 use Rattle.diag_bus.specs.Text.{drawn_text, text_of}
 use Rattle.diag_bus.proofs.Texts.{line_writes, text_push}
 use Rattle.diag_bus.proofs.replies.RepliesSink.end_line.Goals as goal

@@ -1,5 +1,5 @@
 use Rattle.std.proofs.Common.{◌≡◌, ◌∷◌, ◌++◌, ℕ, [], length, ap, subst, sym, ◌∙◌, arith, inl, inr, length-append}
-use Rattle.diag_bus.specs.Requests.{IsOwner}
+use Rattle.diag_bus.specs.RequestIds.{IsOwner}
 use Rattle.diag_bus.specs.declared.request_ids.Owner.{Owner}
 use Rattle.diag_world.proofs.Worlds.{push_cases}
 use Rattle.diag_bus.proofs.request_ids.RequestIds.new.Goals as goal

@@ -1,6 +1,6 @@
 use Rattle.std.proofs.Common.{◌≡◌, ℕ, Some, length}
 use Rattle.std.specs.Prelude.{slice_get}
-use Rattle.diag_bus.specs.Requests.{IsOwner}
+use Rattle.diag_bus.specs.RequestIds.{IsOwner}
 use Rattle.diag_bus.specs.declared.request_ids.Owner.{Owner}
 use Rattle.diag_bus.proofs.request_ids.RequestIds.new.Given as goal
 

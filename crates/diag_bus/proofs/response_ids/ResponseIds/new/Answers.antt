@@ -1,5 +1,5 @@
 use Rattle.std.proofs.Common.{◌≡◌, ◌∷◌, ◌++◌, ℕ, [], Option, length, ap, subst, sym, ◌∙◌, arith, inl, inr, length-append}
-use Rattle.diag_bus.specs.Requests.{IsResponder}
+use Rattle.diag_bus.specs.ResponseIds.{IsResponder}
 use Rattle.diag_world.proofs.Worlds.{push_cases}
 use Rattle.diag_bus.proofs.response_ids.ResponseIds.new.Goals as goal
 

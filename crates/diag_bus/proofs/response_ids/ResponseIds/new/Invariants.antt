@@ -1,6 +1,6 @@
 use Rattle.std.proofs.Common.{◌≡◌, ℕ, Option, Some, length}
 use Rattle.std.specs.Prelude.{slice_get}
-use Rattle.diag_bus.specs.Requests.{IsResponder}
+use Rattle.diag_bus.specs.ResponseIds.{IsResponder}
 use Rattle.diag_bus.proofs.response_ids.ResponseIds.new.Given as goal
 
 abbrev pub invariant-loop-number : goal.invariant-loop-number

@@ -1,13 +1,13 @@
 use Rattle.std.proofs.Common.{◌≡◌, ◌++◌, [], List, ℕ, ap, ap₂, subst, sym, ◌∙◌}
 use Rattle.std.specs.List.{flat_map}
 use Rattle.std.specs.Prelude.{map}
-use Rattle.diag_bus.specs.Verdict.{places}
+use Rattle.diag_bus.specs.Verdict.{numbers}
 use Rattle.diag_judge.specs.declared.tester.Counts.{Counts}
 use Rattle.diag_judge.specs.declared.tester.Tester.{Tester}
-use Rattle.diag_judge.specs.declared.tester.Told.{Told}
+use Rattle.diag_judge.specs.declared.tester.Judged.{Judged}
 use Rattle.diag_compare.specs.Compare.{last_line, open_for}
 use Rattle.diag_compare.specs.Expects.{expects}
-use Rattle.diag_comparing.specs.Keeping.{AreTesters, count_lines, lines_at, nothing_in, status_in, told_pair}
+use Rattle.diag_comparing.specs.Keeping.{AreTesters, count_lines, judged_pair, lines_at, nothing_in, status_in}
 use Rattle.diag_comparing.proofs.Ends.{lines_are, nothing_is, status_is}
 use Rattle.diag_comparing.proofs.Lines.{lines_same}
 use Rattle.diag_comparing.proofs.exchange_lines.ExchangeLines.end.Goals as goal
@@ -22,9 +22,9 @@ returns-clause-ok c =
     let setup = c.args.setup.now in
     let stamps = c.args.self.now.stamps in
     let d = c.args.self.now.differences in
-    let told = c.end_each.new.told.items in
+    let judged = c.end_each.new.judged.items in
     let counts = c.in_ok-counts.counts.items in
-    let one = lines_at setup stamps d told in
+    let one = lines_at setup stamps d judged in
     let two = count_lines setup 1 counts in
     let three = last_line (nothing_in counts) in
     let first : c.write_batch.new.text.items ≡ one = c.in_ok-write_batch.ensures ∙ ap (λ w. w ++ one) c.new-end.ensures.items in
@@ -38,8 +38,8 @@ returns-clause-ok c =
       grown = c.in_ok-extend_from_slice.ensures.items ∙ ap (λ w. c.args.text.now.items ++ w) (c.as_slice-4.ensures.value ∙ third);
       holds = λ lines taken.
           let each = subst (λ (ts : List Tester). AreTesters setup lines [] ts) (sym c.as_slice.ensures.value) taken.each in
-          let pairs = flat_map (open_for (expects setup) setup lines) (places setup) in
-          let are : told ≡ map told_pair pairs = c.in_ok-counts.ensures.told lines each ∙ ap (λ (w : List Told). w ++ map told_pair pairs) c.new-told.ensures.items in
+          let pairs = flat_map (open_for (expects setup) setup lines) (numbers setup) in
+          let are : judged ≡ map judged_pair pairs = c.in_ok-counts.ensures.judged lines each ∙ ap (λ (w : List Judged). w ++ map judged_pair pairs) c.new-judged.ensures.items in
           let all = c.in_ok-counts.ensures.counts lines each in
           ap₂ (λ (u v : List ℕ). u ++ v)
           (ap₂ (λ (u v : List ℕ). u ++ v) (ap (lines_at setup stamps d) are ∙ lines_same setup stamps lines d taken.stamps pairs)

@@ -21,7 +21,7 @@ loop-index-preserved c =
         | inl p ↦ (
             let place : c.in-Some.who ≡ i + 1 = omega (arith, p.0, inv.many, who) in
             subst (λ (x : Tester). IsTester setup [] [] (i + 1) x) (sym p.1)
-            (new_tester setup (i + 1) own c.new.ensures.judges c.new.ensures.entered (c.new.ensures.side ∙ c.unit_side.ensures ∙ ap (unit_side setup) place)))
+            (new_tester setup (i + 1) own c.new.ensures.judges c.new.ensures.entered (c.new.ensures.link_setup ∙ c.unit_side.ensures ∙ ap (unit_side setup) place)))
         | inr p ↦ inv.each i tester p
       ];
     }

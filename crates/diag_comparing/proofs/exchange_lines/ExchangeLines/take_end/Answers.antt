@@ -2,11 +2,11 @@ use Rattle.std.proofs.Common.{◌≡◌, ◌+◌, ◌++◌, ◌∷◌, [], List,
 use Rattle.std.proofs.lemmas.List.{length-append}
 use Rattle.std.specs.List.{flat_map}
 use Rattle.std.specs.Prelude.{map}
-use Rattle.diag_bus.specs.Verdict.{places}
-use Rattle.diag_judge.specs.declared.tester.Told.{Told}
+use Rattle.diag_bus.specs.Verdict.{numbers}
+use Rattle.diag_judge.specs.declared.tester.Judged.{Judged}
 use Rattle.diag_compare.specs.Compare.{over_by}
 use Rattle.diag_compare.specs.Expects.{expects}
-use Rattle.diag_comparing.specs.Keeping.{lines_at, told_pair}
+use Rattle.diag_comparing.specs.Keeping.{judged_pair, lines_at}
 use Rattle.diag_comparing.proofs.LineEnds.{is_line}
 use Rattle.diag_comparing.proofs.Lines.{lines_same, stamps_more}
 use Rattle.diag_comparing.proofs.exchange_lines.ExchangeLines.take_end.Goals as goal
@@ -21,7 +21,7 @@ returns-clause-taken c =
     let d = old.differences in
     let n = c.in_ok-line.line in
     let stamps = c.take.new.self in
-    let batch = c.take_each.new.told.items in
+    let batch = c.take_each.new.judged.items in
     let more = lines_at setup stamps d batch in
     let own : c.write_batch.new.text.items ≡ more = c.in_ok-write_batch.ensures ∙ ap (λ w. w ++ more) c.clear-2.ensures.items in
     record {
@@ -30,8 +30,8 @@ returns-clause-taken c =
       holds = λ lines line K ends taken.
           let count = c.in_ok-line.ensures ∙ ap (λ k. k + 1) taken.count in
           let one = c.in_ok-take_each.ensures.each lines line K (is_line setup lines line said span clock K n count ends) taken.each in
-          let pairs = flat_map (over_by (expects setup) setup lines line) (places setup) in
-          let are : batch ≡ map told_pair pairs = one.1 ∙ ap (λ (w : List Told). w ++ map told_pair pairs) c.clear.ensures.items in
+          let pairs = flat_map (over_by (expects setup) setup lines line) (numbers setup) in
+          let are : batch ≡ map judged_pair pairs = one.1 ∙ ap (λ (w : List Judged). w ++ map judged_pair pairs) c.clear.ensures.items in
           let stamped = stamps_more setup lines line old.stamps stamps n clock.start count ends.start c.take.ensures taken.stamps in (
             record {
               count = count ∙ sym (length-append lines (line ∷ []));

@@ -1,11 +1,11 @@
 use Rattle.std.proofs.Common.{[], ◌++◌, ap, subst, sym, ◌∙◌}
 use Rattle.std.proofs.lemmas.Result.{on_ok_weaker}
-use Rattle.diag_bus.specs.Batch.{lists_of}
+use Rattle.diag_bus.specs.Node.{lists_of}
 use Rattle.diag_compare.specs.Compare.{compared}
 use Rattle.diag_compare.specs.Expects.{expects}
 use Rattle.diag_comparing.proofs.LineEnds.{line_ends}
 use Rattle.diag_comparing.proofs.Lines.{compared_push}
-use Rattle.diag_bus.specs.Requests.{AreResponsesOf}
+use Rattle.diag_bus.specs.ResponseIds.{AreResponsesOf}
 use Rattle.diag_bus.specs.declared.response_ids.ResponseIds.{ResponseIds}
 use Rattle.diag_comparing.proofs.sink.ExchangeLinesSink.end_line.Goals as goal
 

@@ -1,6 +1,6 @@
 use Rattle.std.proofs.Common.{subst, sym, ◌∙◌}
 use Rattle.std.proofs.lemmas.Result.{on_ok_weaker}
-use Rattle.diag_bus.specs.Requests.{AreResponsesOf}
+use Rattle.diag_bus.specs.ResponseIds.{AreResponsesOf}
 use Rattle.diag_bus.specs.declared.response_ids.ResponseIds.{ResponseIds}
 use Rattle.diag_comparing.proofs.sink.ExchangeLinesSink.enter_request.Goals as goal
 

@@ -19,8 +19,8 @@ returns-clause-some c = λ past f.
     let answered = c.in-Some.ensures.some in
     let said = reply old.play.ecu who functional answered.message in
     let e = asks who (request_of functional answered.message) said in
-    let place = c.place-place.ensures in
-    let is : IsEntry e = (omega (arith, place), omega (arith, place), (answered.is_message, answered.is_reply)) in
+    let number = c.number-number.ensures in
+    let is : IsEntry e = (omega (arith, number), omega (arith, number), (answered.is_message, answered.is_reply)) in
     let counted = f.count in
     let free = c.requires.usual.count in
     record {

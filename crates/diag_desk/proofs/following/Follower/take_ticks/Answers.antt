@@ -14,9 +14,9 @@ pub overflow_add-clock : goal.overflow_add-clock
 overflow_add-clock c =
     let past = c.requires.follows.0 in
     let f = c.requires.follows.1 in
-    let place = c.place-place.ensures in
+    let number = c.number-number.ensures in
     let bound = sum_bound c.args.who past f.journal.0 in
-    let told = f.clocks.each c.args.who (omega (arith, place)) in
+    let told = f.clocks.each c.args.who (omega (arith, number)) in
     omega (arith, bound, told, f.journal.1, c.at.ensures.same, c.in-Some.ensures.count)
 
 pub returns-clause-some : goal.returns-clause-some
@@ -26,12 +26,12 @@ returns-clause-some c = λ past f.
     let rest = c.in-Some.front.rest.now in
     let old = c.args.self.now in
     let e = entry who (Ticks count) None in
-    let place = c.place-place.ensures in
+    let number = c.number-number.ensures in
     let counts = c.in-Some.ensures.count in
-    let is : IsEntry e = (omega (arith, place), omega (arith, place), (omega (arith, counts), omega (arith, counts), refl)) in
+    let is : IsEntry e = (omega (arith, number), omega (arith, number), (omega (arith, counts), omega (arith, counts), refl)) in
     let counted = f.count in
     let free = c.requires.usual.count in
-    let told = f.clocks.each who (omega (arith, place)) in
+    let told = f.clocks.each who (omega (arith, number)) in
     record {
       entry = e;
       line = ticks_line who count _ c.args.text.now rest refl c.in-Some.ensures.is ∙ ap (λ b. line_after b past e ++ 10 ∷ rest) (sym c.requires.usual.version);

@@ -3,7 +3,7 @@ use Rattle.std.specs.List.{filter}
 use Rattle.diag_exchange.specs.Streaming.{asked_again, goes_on, is_done, told}
 use Rattle.diag_exchange.specs.declared.happening.Happening.TheVariants.{Asked}
 use Rattle.diag_exchange.specs.declared.happening.Over.{Over}
-use Rattle.diag_exchange.specs.declared.held.Open.{Open}
+use Rattle.diag_exchange.specs.declared.open.Open.{Open}
 use Rattle.diag_exchange.proofs.Taking.{took_as}
 use Rattle.diag_exchange.proofs.exchanges.Exchanges.ask.Goals as goal
 

@@ -1,7 +1,7 @@
 use Rattle.std.proofs.Common.{◌≡◌, List, [], ◌++◌, ◌∷◌, refl, map, length, ap, sym, ◌∙◌, arith}
 use Rattle.std.proofs.lemmas.List.{append-nil}
 use Rattle.std.specs.List.{filter}
-use Rattle.diag_exchange.specs.declared.held.Open.{Open}
+use Rattle.diag_exchange.specs.declared.open.Open.{Open}
 use Rattle.diag_exchange.specs.Asking.{courses}
 use Rattle.diag_exchange.specs.Exchanges.{is_open}
 use Rattle.diag_exchange.specs.Streaming.{told}
@@ -14,8 +14,8 @@ no_items (x ∷ xs) e = absurd (omega (arith, e))
 
 pub returns-clause-ok : goal.returns-clause-ok
 returns-clause-ok c = λ hs s.
-    let rest = c.loop-held.held-iterator.rest in
+    let rest = c.loop-open.open-iterator.rest in
     let empty : rest.items ≡ [] = no_items rest.items (omega (arith, c.in-None.ensures.steps.0, rest.ok)) in
-    let all = c.loop-held.invariant.all ∙ (ap (λ (w : List Open). c.loop-held.yielded ++ w) empty ∙ append-nil c.loop-held.yielded) in
-    c.loop-held.invariant.over ∙ ap (λ w. c.args.over.now.items ++ w)
+    let all = c.loop-open.invariant.all ∙ (ap (λ (w : List Open). c.loop-open.yielded ++ w) empty ∙ append-nil c.loop-open.yielded) in
+    c.loop-open.invariant.over ∙ ap (λ w. c.args.over.now.items ++ w)
     (ap (map told) (sym all ∙ s.are_open) ∙ told_kept (filter is_open (courses hs)))

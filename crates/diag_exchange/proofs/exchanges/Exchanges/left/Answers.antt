@@ -1,7 +1,7 @@
 use Rattle.std.proofs.Common.{◌≡◌, ◌≤◌, ◌++◌, List, length, map, take, ap, sym, ◌∙◌, arith}
 use Rattle.std.proofs.lemmas.List.{take_all}
 use Rattle.std.specs.List.{filter}
-use Rattle.diag_exchange.specs.declared.held.Open.{Open}
+use Rattle.diag_exchange.specs.declared.open.Open.{Open}
 use Rattle.diag_exchange.specs.Asking.{courses}
 use Rattle.diag_exchange.specs.Exchanges.{is_open}
 use Rattle.diag_exchange.specs.Streaming.{told}
@@ -11,8 +11,8 @@ use Rattle.diag_exchange.proofs.exchanges.Exchanges.left.Goals as goal
 pub returns : goal.returns
 returns c = λ hs s.
     let live = c.args.self.now.live.items in
-    let same : c.deref-held-items.result.now ≡ live = c.deref-held-items.ensures.value in
-    let long : length live ≤ c.loop-held.held-index = omega (arith, ap length same, c.loop-held-test.false) in
-    let all : take c.loop-held.held-index live ≡ live = take_all c.loop-held.held-index live long in
-    c.loop-held.invariant ∙ ap (λ (w : List Open). c.args.over.now.items ++ map told w) all
+    let same : c.deref-open-items.result.now ≡ live = c.deref-open-items.ensures.value in
+    let long : length live ≤ c.loop-open.open-index = omega (arith, ap length same, c.loop-open-test.false) in
+    let all : take c.loop-open.open-index live ≡ live = take_all c.loop-open.open-index live long in
+    c.loop-open.invariant ∙ ap (λ (w : List Open). c.args.over.now.items ++ map told w) all
     ∙ ap (λ w. c.args.over.now.items ++ w) (ap (map told) s.are_open ∙ told_kept (filter is_open (courses hs)))

@@ -2,5 +2,5 @@ use Rattle.std.proofs.Common.{◌≡◌, ◌++◌, map, take}
 use Rattle.diag_exchange.specs.Streaming.{told}
 use Rattle.diag_exchange.proofs.exchanges.Exchanges.left.Given as goal
 
-abbrev pub invariant-loop-held : goal.invariant-loop-held
-invariant-loop-held l = l.over.items ≡ l.fn.over.items ++ map told (take l.held-index l.self.live.items)
+abbrev pub invariant-loop-open : goal.invariant-loop-open
+invariant-loop-open l = l.over.items ≡ l.fn.over.items ++ map told (take l.open-index l.self.live.items)

@@ -15,9 +15,9 @@ split_seat-spot-requires c =
     let is = c.host.invariant.0.is in
     let same = ap (λ h. h.gate) c.host.view_is ∙ c.requires ∙ sym c.self.view_is in
     let after = c.compare_exchange.ensures.2 in
-    let at_is = c.from-at.ensures ∙ c.place.ensures.same in
-    let named_is = c.from-named.ensures ∙ c.place-2.ensures.same in
-    let low : c.args.who < 9 = let p = c.place.ensures in omega arith in
+    let at_is = c.from-at.ensures ∙ c.number.ensures.same in
+    let named_is = c.from-named.ensures ∙ c.number-2.ensures.same in
+    let low : c.args.who < 9 = let p = c.number.ensures in omega arith in
     let has = host_has c.host.inside.place.me c.host.inside.given c.host.inside.home c.host.invariant.0 c.args.who low
     (sym (ap (λ t. Rattle.std.proofs.Common.get_or c.host.inside.given t Rattle.std.proofs.Common.false) at_is) ∙ c.if-host-at.false) in (
       c.compare_exchange.ensures.0 ∙ same,
@@ -30,9 +30,9 @@ split_seat-spot-requires c =
 pub returns-clause-some : goal.returns-clause-some
 returns-clause-some c =
     let s = c.split_seat-spot.ensures in
-    let at_is = c.from-at.ensures ∙ c.place.ensures.same in
-    let named_is = c.from-named.ensures ∙ c.place-2.ensures.same in
-    let low : c.args.who < 9 = let p = c.place.ensures in omega arith in
+    let at_is = c.from-at.ensures ∙ c.number.ensures.same in
+    let named_is = c.from-named.ensures ∙ c.number-2.ensures.same in
+    let low : c.args.who < 9 = let p = c.number.ensures in omega arith in
     gave_is c.host.inside.place.me c.host.inside.given c.host.inside.home c.host.invariant.0 c.args.who _ _ low named_is at_is _ _
     c.compare_exchange.ensures.2 s.2
     c.args.host.now _ _ _ _ c.host.view_is c.if-host-at.false s.4 (s.0 ∙ c.compare_exchange.ensures.0) (s.3 ∙ c.compare_exchange.ensures.0)

@@ -2,9 +2,9 @@ use Rattle.std.proofs.Common.{◌≡◌, ◌≤◌, ◌+◌, suc, List, [], ◌�
 use Rattle.std.proofs.lemmas.List.{append-nil, map-append, reverse-reverse, take_all}
 use Rattle.std.specs.Prelude.{reverse}
 use Rattle.diag_exchange.specs.declared.happening.Over.{Over}
-use Rattle.diag_judge.specs.Judging.{AreCounts, told_for}
+use Rattle.diag_judge.specs.Judging.{AreCounts, judged_for}
 use Rattle.diag_judge.specs.declared.tester.Counts.{Counts}
-use Rattle.diag_judge.specs.declared.tester.Told.{Told}
+use Rattle.diag_judge.specs.declared.tester.Judged.{Judged}
 use Rattle.diag_judge.proofs.Lines.{next_of}
 use Rattle.diag_judge.proofs.tester.Counts.judge.Goals as goal
 
@@ -13,7 +13,7 @@ loop-turn-init c = record {
   left = ap reverse c.reverse.ensures.items ∙ reverse-reverse c.args.over.now.items;
   many = omega (arith, c.reverse.ensures.len);
   room = omega (arith, c.reverse.ensures.len, c.len.ensures, c.in_ok-reserve.ensures.ok);
-  told = c.reserve.ensures.items ∙ sym (append-nil c.args.told.now.items);
+  judged = c.reserve.ensures.items ∙ sym (append-nil c.args.judged.now.items);
   counts = λ before h. subst (λ (os : List Over). AreCounts c.args.self.now os) (sym (append-nil before)) h;
 }
 
@@ -24,8 +24,8 @@ loop-turn-preserved c =
     let n = c.loop-turn._turn in
     let one = c.take_last-one.result in
     let past = take n old in
-    let tell = told_for c.args.who in
-    let before = c.args.told.now.items in
+    let tell = judged_for c.args.who in
+    let before = c.args.judged.now.items in
     let next = next_of n old c.loop-turn.over.items c.take_last-one.new.self.items one inv.left c.take_last-one.ensures.items in
     let count : suc n ≡ n + 1 = omega arith in
     let more : past ++ one ∷ [] ≡ take (n + 1) old = sym next.1 ∙ ap (λ k. take k old) count in
@@ -34,19 +34,19 @@ loop-turn-preserved c =
       left = next.0 ∙ ap (λ k. drop k old) count;
       many = omega (arith, inv.many, c.take_last-one.ensures.len);
       room = omega (arith, inv.room, c.take_last-one.ensures.len, c.push_reserved.ensures.len, c.push_reserved.ensures.capacity);
-      told = c.push_reserved.ensures.items ∙ (ap₂
-          (λ (ts : List Told) (b : Bool). ts ++ record { who = c.args.who; over = one; agrees = b } ∷ []) inv.told c.in_ok-agrees.ensures ∙ is)
+      judged = c.push_reserved.ensures.items ∙ (ap₂
+          (λ (ts : List Judged) (b : Bool). ts ++ record { who = c.args.who; over = one; agrees = b } ∷ []) inv.judged c.in_ok-agrees.ensures ∙ is)
           ∙ ap (λ (os : List Over). before ++ map tell os) more;
       counts = λ others h. subst
           (λ (w : List Over). AreCounts c.note.new.self w) (append_assoc others past (one ∷ []) ∙ ap (λ (os : List Over). others ++ os) more)
           (c.in_ok-note.ensures (others ++ past) (inv.counts others h));
     }
 
-pub returns-clause-told : goal.returns-clause-told
-returns-clause-told c =
+pub returns-clause-judged : goal.returns-clause-judged
+returns-clause-judged c =
     let old = c.args.over.now.items in
     let all : length old ≤ c.loop-turn._turn = omega (arith, c.loop-turn-test.false, c.len-turn-end.ensures, c.reverse.ensures.len, c.args.over.now.ok) in
-    c.loop-turn.invariant.told ∙ ap (λ (os : List Over). c.args.told.now.items ++ map (told_for c.args.who) os) (take_all c.loop-turn._turn old all)
+    c.loop-turn.invariant.judged ∙ ap (λ (os : List Over). c.args.judged.now.items ++ map (judged_for c.args.who) os) (take_all c.loop-turn._turn old all)
 
 pub returns-clause-counts : goal.returns-clause-counts
 returns-clause-counts c = λ before h.

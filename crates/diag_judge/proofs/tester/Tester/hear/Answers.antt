@@ -23,7 +23,7 @@ returns-in-Some-clause-heard c =
     (sym is)
     (on_ok_weaker c.take.result (λ last.
     line_heard c.args.setup.now c.args.at own c.wait.new.self asked c.take.new.self [] c.wait.new.over.items later c.take.new.over.items c.args.span
-    entered (Some c.in-Some.frame.now) time c.in_ok-hear_requests.ensures.heard (c.hear_requests.ensures.side ∙ c.wait.ensures.side) last) c.take.ensures.heard)
+    entered (Some c.in-Some.frame.now) time c.in_ok-hear_requests.ensures.heard (c.hear_requests.ensures.link_setup ∙ c.wait.ensures.setup) last) c.take.ensures.heard)
 
 pub returns-in-None-clause-heard : goal.returns-in-None-clause-heard
 returns-in-None-clause-heard c =
@@ -38,4 +38,4 @@ returns-in-None-clause-heard c =
     (λ (frame : Option (List ℕ)). HearsLine c.args.setup.now c.args.at own asked [] later c.args.span entered frame)
     (sym is)
     (line_heard c.args.setup.now c.args.at own c.wait.new.self asked asked [] c.wait.new.over.items later later c.args.span entered None
-    time c.in_ok-hear_requests.ensures.heard (c.hear_requests.ensures.side ∙ c.wait.ensures.side) (nothing_heard asked later c.args.at))
+    time c.in_ok-hear_requests.ensures.heard (c.hear_requests.ensures.link_setup ∙ c.wait.ensures.setup) (nothing_heard asked later c.args.at))

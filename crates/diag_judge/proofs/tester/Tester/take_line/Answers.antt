@@ -7,10 +7,10 @@ use Rattle.diag_judge.proofs.tester.Tester.take_line.Goals as goal
 pub returns-then-is_idle-clause-judges : goal.returns-then-is_idle-clause-judges
 returns-then-is_idle-clause-judges c =
     let own = c.args.self.now in
-    let told = c.args.told.now.items in
+    let judged = c.args.judged.now.items in
     let none : c.args.frame ≡ None = search rules in
     let is : option_copied c.args.frame ≡ None = ap option_copied none in
     subst
-    (λ (frame : Option (List ℕ)). JudgesLine c.args.setup.now c.args.at c.args.who own own told told c.args.span frame)
+    (λ (frame : Option (List ℕ)). JudgesLine c.args.setup.now c.args.at c.args.who own own judged judged c.args.span frame)
     (sym is)
-    (idle_judged c.args.setup.now c.args.at c.args.who own told c.args.span (c.is_idle.ensures.coming c.if-is_idle.true) (c.is_idle.ensures.entered c.if-is_idle.true))
+    (idle_judged c.args.setup.now c.args.at c.args.who own judged c.args.span (c.is_idle.ensures.coming c.if-is_idle.true) (c.is_idle.ensures.entered c.if-is_idle.true))

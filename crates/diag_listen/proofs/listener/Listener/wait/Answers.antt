@@ -12,7 +12,7 @@ pub returns-in-Some-clause-heard : goal.returns-in-Some-clause-heard
 returns-in-Some-clause-heard c =
     let some : 1 ≤ c.in-Some.count = omega (arith, c.in-Some.ensures) in
     let is : c.in-Some.count ≡ min c.args.ms 60000 = omega (arith, c.in-Some.ensures.value, c.min.ensures, c.from.ensures) in
-    let within : c.args.self.now.side.n_cr ≤ 60000 = let high = c.get-n_cr.ensures.in_range.1 in omega (arith, high, c.get-n_cr.ensures.value) in
+    let within : c.args.self.now.setup.n_cr ≤ 60000 = let high = c.get-n_cr.ensures.in_range.1 in omega (arith, high, c.get-n_cr.ensures.value) in
     then_ok c.pass.result _ _ c.pass.ensures.moves (λ moves.
     waits_some c.args.self.now c.pass.new.self c.args.over.now.items c.pass.new.over.items c.args.at c.args.ms c.in-Some.count is some
-    within c.pass.ensures.side moves)
+    within c.pass.ensures.setup moves)

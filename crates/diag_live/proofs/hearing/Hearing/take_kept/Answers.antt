@@ -1,6 +1,6 @@
 use Rattle.std.proofs.Common.{◌≡◌, ◌+◌, ◌∷◌, ◌++◌, [], Ok, Err, arith, sym, ap, ◌∙◌}
 use Rattle.std.proofs.lemmas.Result.{err_from_is_err_and}
-use Rattle.diag_can.specs.Bus.{bus_line}
+use Rattle.diag_can.specs.BusLine.{bus_line}
 use Rattle.diag_live.specs.Live.{restamped, with_feed}
 use Rattle.diag_live.proofs.Hearings.{keep_refuses, line_hears, line_refuses}
 use Rattle.diag_live.proofs.hearing.Hearing.take_kept.Goals as goal

@@ -1,5 +1,5 @@
 use Rattle.std.proofs.Common.{◌≡◌, ◌+◌, ◌++◌, ℕ, List, Ok, Err, arith, sym, ap, ◌∙◌}
-use Rattle.diag_can.specs.Bus.{bus_line}
+use Rattle.diag_can.specs.BusLine.{bus_line}
 use Rattle.diag_live.specs.Live.{restamped, with_feed}
 use Rattle.diag_live.proofs.Hearings.{line_hears, line_refuses, sees_none, sees_told}
 use Rattle.diag_live.proofs.hearing.Hearing.take_whole.Goals as goal

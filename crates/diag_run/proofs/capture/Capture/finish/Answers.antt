@@ -4,7 +4,8 @@ use Rattle.std.proofs.KnownBytes.{Appends-trans}
 use Rattle.std.proofs.lemmas.Bool.Decides.{nat_tests}
 use Rattle.std.proofs.lemmas.List.{nil_from_length}
 use Rattle.std.proofs.lemmas.Result.{IfErr-weaker, IfOk-weaker, err_from_is_err_and}
-use Rattle.diag_run.proofs.Pieces.{closes_begun, closes_ended, cut_begun, halts_begun, halts_ended}
+use Rattle.diag_run.specs.declared.capture.CaptureFault.TheVariants.{Write}
+use Rattle.diag_run.proofs.Pieces.{closes_begun, closes_ended, cut_begun, halts_begun, halts_ended, ok_is_no_fault, writings_behind, writings_passed}
 use Rattle.diag_run.proofs.capture.Capture.finish.Goals as goal
 
 none_kept : {empty : Bool} (kept : Vec ℕ Global) → empty ≡ (vec_len kept == 0) → empty ≡ true → kept.items ≡ []
@@ -56,3 +57,13 @@ returns-clause-err g c =
       cut_begun g.S.Sink g.S.Sink.took g.S.Sink.aim g.S.Sink.written g.S.Ending.ends c.args.self.now begun mid on.0 on.2 fault h.0 (halts_ended g.S.Sink g.S.Sink.took g.S.Sink.aim g.S.Sink.written g.S.Ending.ends mid c.in_ok-take_line.ensures.kept fault h.0 h.2),
     ))
     c.close-2.ensures.err
+
+pub returns-in_err-take_line-clause-device : goal.returns-in_err-take_line-clause-device
+returns-in_err-take_line-clause-device g c =
+    let p = err_from_is_err_and c.from_residual.result c.from_residual.ensures.1 in
+    rw (p.1, p.2) (writings_passed g.W.Target.failed g.W.Target.sound c.args.out.now c.take_line.new.out c.take_line.result _ c.in_err-take_line.was c.take_line.ensures.device)
+
+pub returns-clause-device : goal.returns-clause-device
+returns-clause-device g c =
+    writings_behind g.W.Target.failed g.W.Target.sound c.args.out.now c.take_line.new.out c.close-2.new.out c.close-2.result
+    (c.take_line.ensures.device.1 (ok_is_no_fault c.take_line.result _ Write c.in_ok-take_line.was)) c.close-2.ensures.device

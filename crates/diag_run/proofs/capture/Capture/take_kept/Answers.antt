@@ -1,6 +1,6 @@
-use Rattle.std.proofs.Common.{◌≡◌, ◌∷◌, [], ◌++◌, ◌∙◌, refl}
+use Rattle.std.proofs.Common.{◌≡◌, ◌∷◌, [], ◌++◌, ◌∙◌, refl, sym}
 use Rattle.std.proofs.lemmas.Result.{err_from_is_err_and}
-use Rattle.diag_run.proofs.Pieces.{give_halts, keep_halts, line_goes_on}
+use Rattle.diag_run.proofs.Pieces.{give_halts, keep_halts, line_goes_on, sees_kept, sees_long}
 use Rattle.diag_run.proofs.capture.Capture.take_kept.Goals as goal
 
 pub returns-in_err-keep-clause-err : goal.returns-in_err-keep-clause-err
@@ -24,3 +24,16 @@ returns-clause-ok g c =
     let gave = c.in_ok-take_line.ensures.took in
     line_goes_on g.S.Sink g.S.Sink.took g.S.Sink.aim g.S.Sink.written g.S.Ending.ends g.met.S.Ending.ends_as_asked c.args.self.now _ c.take_line.ensures.setup c.take_line.ensures.aim c.args.bytes.now c.as_slice.result.now gave.more c.requires.line whole
     gave.holds c.clear.ensures.items refl gave.grown
+
+pub returns-in_err-keep-clause-seen : goal.returns-in_err-keep-clause-seen
+returns-in_err-keep-clause-seen g c =
+    let p = err_from_is_err_and c.from_residual.result c.from_residual.ensures.1 in
+    rw (p.1, p.2) (sees_long g.S.Sink g.S.Sink.took g.S.Sink.aim g.S.Sink.written g.S.Ending.ends c.args.self.now c.args.bytes.now _ c.requires.begun (λ long. sym c.in_err-keep.was ∙ c.keep.ensures.long long))
+
+pub returns-in_err-take_line-clause-seen : goal.returns-in_err-take_line-clause-seen
+returns-in_err-take_line-clause-seen g c =
+    sees_kept g.S.Sink g.S.Sink.took g.S.Sink.aim g.S.Sink.written g.S.Ending.ends c.args.self.now c.args.bytes.now c.keep.result _ _ c.requires.begun c.keep.ensures.long c.in_ok-keep.was
+
+pub returns-clause-seen : goal.returns-clause-seen
+returns-clause-seen g c =
+    sees_kept g.S.Sink g.S.Sink.took g.S.Sink.aim g.S.Sink.written g.S.Ending.ends c.args.self.now c.args.bytes.now c.keep.result _ _ c.requires.begun c.keep.ensures.long c.in_ok-keep.was

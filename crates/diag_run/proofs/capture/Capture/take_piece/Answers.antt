@@ -1,7 +1,7 @@
 use Rattle.std.proofs.Common.{◌≡◌, ◌∷◌, [], ◌++◌, length, arith, length-append, sym, refl, append_assoc, ◌∙◌}
 use Rattle.std.proofs.lemmas.List.{append-nil}
 use Rattle.std.proofs.lemmas.Result.{IfErr-weaker, on_ok_weaker}
-use Rattle.diag_run.proofs.Pieces.{ok_is_no_fault, one_line_more, so_far_done, so_far_halts}
+use Rattle.diag_run.proofs.Pieces.{ok_is_no_fault, one_line_more, so_far_done, so_far_halts, writings_behind, writings_passed}
 use Rattle.diag_run.specs.declared.capture.CaptureFault.TheVariants.{Write}
 use Rattle.diag_run.proofs.capture.Capture.take_piece.Goals as goal
 
@@ -35,3 +35,12 @@ returns-in-Err-clause-err g c =
     let after = c.in-Some.first.after.now in
     so_far_halts g.S.Sink g.S.Sink.took g.S.Sink.aim g.S.Sink.written g.S.Ending.ends _ _ _ _ _ c.args.piece.now c.loop-first.rest.now c.loop-first.invariant.so_far c.in-Err.fault (whole ++ 10 ∷ []) after
     (c.in-Some.ensures.is ∙ sym (append_assoc whole (10 ∷ []) after)) c.in-Err.ensures.err
+
+pub returns-clause-device : goal.returns-clause-device
+returns-clause-device g c =
+    writings_behind g.W.Target.failed g.W.Target.sound c.args.out.now c.loop-first.out c.take_begun.new.out c.take_begun.result c.loop-first.invariant.sound c.take_begun.ensures.device
+
+pub returns-in-Err-clause-device : goal.returns-in-Err-clause-device
+returns-in-Err-clause-device g c =
+    writings_behind g.W.Target.failed g.W.Target.sound c.args.out.now c.loop-first.out c.take_line.new.out _ c.loop-first.invariant.sound
+    (writings_passed g.W.Target.failed g.W.Target.sound c.loop-first.out c.take_line.new.out c.take_line.result c.in-Err.fault c.in-Err.is c.take_line.ensures.device)

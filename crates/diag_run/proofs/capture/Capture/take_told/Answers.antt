@@ -1,5 +1,5 @@
 use Rattle.std.proofs.Common.{◌≡◌, ◌++◌, List, ℕ, sym, ap, refl}
-use Rattle.diag_run.proofs.Pieces.{give_halts, line_goes_on}
+use Rattle.diag_run.proofs.Pieces.{give_halts, line_goes_on, sees_refused}
 use Rattle.diag_run.proofs.capture.Capture.take_told.Goals as goal
 
 pub returns-in-Err-clause-err : goal.returns-in-Err-clause-err
@@ -16,3 +16,11 @@ returns-clause-ok g c =
     let gave = c.in_default.ensures.takes in
     line_goes_on g.S.Sink g.S.Sink.took g.S.Sink.aim g.S.Sink.written g.S.Ending.ends g.met.S.Ending.ends_as_asked c.args.self.now _ c.give.ensures.setup c.give.ensures.asked line line gave.more c.requires.line whole gave.holds
     c.requires.none refl gave.grown
+
+pub returns-in-Err-clause-seen : goal.returns-in-Err-clause-seen
+returns-in-Err-clause-seen g c =
+    sees_refused g.S.Sink g.S.Sink.took g.S.Sink.aim g.S.Sink.written g.S.Ending.ends c.args.self.now c.args.line.now c.give.result _ c.in-Err.is c.requires.none c.give.ensures.first
+
+pub returns-clause-seen : goal.returns-clause-seen
+returns-clause-seen g c =
+    sees_refused g.S.Sink g.S.Sink.took g.S.Sink.aim g.S.Sink.written g.S.Ending.ends c.args.self.now c.args.line.now c.give.result _ c.in_default.is c.requires.none c.give.ensures.first

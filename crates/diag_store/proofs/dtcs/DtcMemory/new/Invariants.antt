@@ -1,7 +1,7 @@
 use Rattle.std.proofs.Common.{◌≡◌, take}
 use Rattle.std.specs.Prelude.{map}
 use Rattle.std.specs.List.{All}
-use Rattle.diag_setup.specs.Fits.{CodeFits}
+use Rattle.diag_setup.specs.Fits.{DtcFits}
 use Rattle.diag_store.specs.Opening.{dtc_row}
 use Rattle.diag_store.proofs.dtcs.DtcMemory.new.Given as goal
 
@@ -9,5 +9,5 @@ use Rattle.diag_store.proofs.dtcs.DtcMemory.new.Given as goal
 abbrev pub invariant-loop-row : goal.invariant-loop-row
 invariant-loop-row l = record {
   rows : l.rows.items ≡ map dtc_row (take l.row-index l.dtcs);
-  fit : All CodeFits l.dtcs;
+  fit : All DtcFits l.dtcs;
 }

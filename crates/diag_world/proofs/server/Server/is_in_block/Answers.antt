@@ -11,5 +11,5 @@ pub returns : goal.returns
 returns c =
     c.some_in_block.ensures
     ∙ (ap (λ ls. list_any (λ lazy. port_in_block (port_of lazy.port)) ls) c.as_slice.ensures.value
-    ∙ (some_caught c.self.inside.passed c.self.inside.links.items
+    ∙ (some_caught c.self.inside.passed c.self.inside.ports.items
     ∙ ap (λ (v : ServerView). some_in_block (map port_of v.ports)) c.self.view_is))

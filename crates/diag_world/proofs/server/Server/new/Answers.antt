@@ -2,19 +2,19 @@ use Rattle.std.proofs.Common.{◌≡◌, ◌+◌, [], ◌∷◌, ◌++◌, lengt
 use Rattle.std.proofs.lemmas.Grind.{common_steps}
 use Rattle.std.proofs.lemmas.List.{length-map}
 use Rattle.diag_setup.specs.Setup.{link_of}
-use Rattle.diag_world.specs.Lazy.{IsLazy, caught_up}
+use Rattle.diag_world.specs.LazyPort.{IsLazy, caught_up}
 use Rattle.diag_port.specs.Late.{pace_of}
 use Rattle.diag_port.specs.Port.{PortState, port_of}
 use Rattle.diag_port.specs.Standing.{PortStands}
-use Rattle.diag_world.specs.declared.lazy_link.LazyLink.{LazyLink}
-use Rattle.diag_world.proofs.Lazy.{seen_links}
+use Rattle.diag_world.specs.declared.lazy_port.LazyPort.{LazyPort}
+use Rattle.diag_world.proofs.Lazy.{seen_ports}
 use Rattle.diag_world.proofs.Worlds.{push_cases, map_cases, who_found}
 use Rattle.diag_world.proofs.server.Server.new.Goals as goal
 
 pub loop-index-preserved : goal.loop-index-preserved
 loop-index-preserved c =
     let inv = c.loop-index.invariant in
-    let before = c.loop-index.links.items in
+    let before = c.loop-index.ports.items in
     let one = c.new-in-loop-index.result in
     let grown : c.push_reserved.new.self.items ≡ before ++ one ∷ [] = search (rules, common_steps) in
     let fresh = c.new-in-loop-index.ensures in
@@ -23,7 +23,7 @@ loop-index-preserved c =
       stand = λ i lazy at. elim (push_cases before i one lazy (rw grown at at)) [
         | inl p ↦ (
             let place : c.in-Some.who ≡ i + 1 = omega (arith, p.0, inv.count, who_found c.args.setup.now c.loop-index.index c.in-Some.who c.in-Some.ensures) in
-            subst (λ (x : LazyLink). PortStands (link_of c.args.setup.now (i + 1)) (pace_of c.args.setup.now) (port_of (caught_up 0 x)) [] []) (sym p.1)
+            subst (λ (x : LazyPort). PortStands (link_of c.args.setup.now (i + 1)) (pace_of c.args.setup.now) (port_of (caught_up 0 x)) [] []) (sym p.1)
             (subst (λ s. PortStands s (pace_of c.args.setup.now) (port_of (caught_up 0 one)) [] []) (c.link.ensures ∙ ap (link_of c.args.setup.now) place)
             (subst (λ pace. PortStands c.link.result pace (port_of (caught_up 0 one)) [] []) c.of.ensures fresh.stands)))
         | inr p ↦ inv.stand i lazy p
@@ -43,16 +43,16 @@ invariant_of-result c = c.loop-index.invariant.lazy
 
 pub returns : goal.returns
 returns c =
-    let links = c.loop-index.links.items in
-    let seen = seen_links 0 links in
+    let ports = c.loop-index.ports.items in
+    let seen = seen_ports 0 ports in
     record {
       legal = tt;
       ecu = c.in_ok-ecu.ensures;
-      testers = length-map seen port_of ∙ (length-map links (λ l. caught_up 0 l) ∙ omega (arith, c.loop-index.invariant.count, c.testers-index-end.ensures.same));
+      testers = length-map seen port_of ∙ (length-map ports (λ l. caught_up 0 l) ∙ omega (arith, c.loop-index.invariant.count, c.testers-index-end.ensures.same));
       run = refl;
       ports = λ i port at.
           let t = map_cases port_of seen i port at in
-          let u = map_cases (λ l. caught_up 0 l) links i t.0 t.1 in
+          let u = map_cases (λ l. caught_up 0 l) ports i t.0 t.1 in
           subst (λ (p : PortState). PortStands (link_of c.args.setup.now (i + 1)) (pace_of c.args.setup.now) p [] []) (sym (t.2 ∙ ap port_of u.2))
           (c.loop-index.invariant.stand i u.0 u.1);
     }

@@ -3,7 +3,7 @@ use Rattle.std.specs.Prelude.{is_some}
 use Rattle.diag_store.specs.Dtcs.{status_of, with_status}
 use Rattle.diag_ecu.specs.State.{State}
 use Rattle.diag_world.specs.Server.{ServerView, WasSet, server_of, state_at}
-use Rattle.diag_world.proofs.Lazy.{seen_links}
+use Rattle.diag_world.proofs.Lazy.{seen_ports}
 use Rattle.diag_world.proofs.Serving.{was_set}
 use Rattle.diag_world.proofs.server.Server.set_status.Goals as goal
 
@@ -12,7 +12,7 @@ returns-clause-known c = c.set_status.ensures.known ∙ ap (λ (v : ServerView).
 
 pub returns-clause-set : goal.returns-clause-set
 returns-clause-set c =
-    let ports = seen_links c.self.inside.passed c.self.inside.links.items in
+    let ports = seen_ports c.self.inside.passed c.self.inside.ports.items in
     let set : State → State = λ s. record s { dtcs = with_status s.dtcs c.args.code c.args.status } in
     subst (λ (v : ServerView). WasSet (server_of v) (state_at c.set_status.new.self ports) (set v.ecu)) c.self.view_is
     (was_set (state_at c.self.inside.ecu ports) (state_at c.set_status.new.self ports) (set c.self.inside.ecu) c.set_status.ensures.set refl)

@@ -3,7 +3,7 @@ use Rattle.std.proofs.lemmas.Result.{on_err_weaker, on_ok_weaker}
 use Rattle.diag_store.specs.Dids.{with_value, write_answer}
 use Rattle.diag_ecu.specs.State.{State}
 use Rattle.diag_world.specs.Server.{ServerView, WasSet, server_of, state_at}
-use Rattle.diag_world.proofs.Lazy.{seen_links}
+use Rattle.diag_world.proofs.Lazy.{seen_ports}
 use Rattle.diag_world.proofs.Serving.{was_set}
 use Rattle.diag_world.proofs.server.Server.set_value.Goals as goal
 
@@ -12,7 +12,7 @@ returns-clause-answer c = c.set_value.ensures.answer ∙ ap (λ (v : ServerView)
 
 pub returns-clause-ok : goal.returns-clause-ok
 returns-clause-ok c =
-    let ports = seen_links c.self.inside.passed c.self.inside.links.items in
+    let ports = seen_ports c.self.inside.passed c.self.inside.ports.items in
     let set : State → State = λ s. record s { dids = with_value s.dids c.args.id c.args.value.now } in
     on_ok_weaker c.set_value.result
     (λ is. subst (λ (v : ServerView). WasSet (server_of v) (state_at c.set_value.new.self ports) (set v.ecu)) c.self.view_is
@@ -21,7 +21,7 @@ returns-clause-ok c =
 
 pub returns-clause-err : goal.returns-clause-err
 returns-clause-err c =
-    let ports = seen_links c.self.inside.passed c.self.inside.links.items in
+    let ports = seen_ports c.self.inside.passed c.self.inside.ports.items in
     on_err_weaker c.set_value.result
     (λ is. ap (λ (s : State). (let v : ServerView = record { ecu = s; ports = ports } in v)) is ∙ c.self.view_is) c.set_value.ensures.err
 

@@ -7,8 +7,8 @@ use Rattle.diag_port.specs.Port.{port_of}
 use Rattle.diag_port.proofs.Faults.{fault_by}
 use Rattle.diag_world.specs.Server.{ServerTook, server_of, state_at}
 use Rattle.diag_world.specs.Weaving.{items_of}
-use Rattle.diag_world.specs.declared.lazy_link.LazyLink.{LazyLink}
-use Rattle.diag_world.proofs.Lazy.{caught_still, caught_told, seen_after, seen_links, set_lazy, told_after}
+use Rattle.diag_world.specs.declared.lazy_port.LazyPort.{LazyPort}
+use Rattle.diag_world.proofs.Lazy.{caught_still, caught_told, seen_after, seen_ports, set_lazy, told_after}
 use Rattle.diag_world.proofs.Tester.{IsAt, early_here, lazy_at, port_here, port_there, same_here, took_here}
 use Rattle.diag_world.proofs.server.Server.take.Given.{Over}
 use Rattle.diag_world.proofs.server.Server.take.Goals as goal
@@ -17,13 +17,13 @@ use Rattle.diag_world.proofs.server.Server.take.Goals.{After-take_at}
 pub catch_up-requires : goal.catch_up-requires
 catch_up-requires g c =
     record {
-      lazy = c.self.invariant _ _ (lazy_at c.self.inside.links.items c.self.inside.passed _ c.self.view_is c.requires.in_setup c.index-index.ensures.from_one
+      lazy = c.self.invariant _ _ (lazy_at c.self.inside.ports.items c.self.inside.passed _ c.self.view_is c.requires.in_setup c.index-index.ensures.from_one
           c.index_mut-lazy.ensures.value);
     }
 
 pub take_at-requires-clause-early : goal.take_at-requires-clause-early
 take_at-requires-clause-early g c =
-    early_here (port_there c.self.inside.links.items c.self.inside.passed _ c.self.view_is c.requires.in_setup c.index-index.ensures.from_one
+    early_here (port_there c.self.inside.ports.items c.self.inside.passed _ c.self.view_is c.requires.in_setup c.index-index.ensures.from_one
     c.index_mut-lazy.ensures.value c.catch_up.new.self.port c.catch_up.ensures.port) c.requires.early
 
 pub take_at-requires-clause-rest : goal.take_at-requires-clause-rest
@@ -31,11 +31,11 @@ take_at-requires-clause-rest g c = c.catch_up.ensures.lazy.rest
 
 module _ (g : Over) (c : After-take_at g) where
   -- the tester's port, where the contract sees it
-  here : IsAt c.self.inside.ecu (seen_links c.self.inside.passed c.self.inside.links.items) c.args.self.now c.args.who c.index-index.result c.catch_up.new.self.port
-  here = port_there c.self.inside.links.items c.self.inside.passed _ c.self.view_is c.requires.in_setup c.index-index.ensures.from_one c.index_mut-lazy.ensures.value c.catch_up.new.self.port c.catch_up.ensures.port
+  here : IsAt c.self.inside.ecu (seen_ports c.self.inside.passed c.self.inside.ports.items) c.args.self.now c.args.who c.index-index.result c.catch_up.new.self.port
+  here = port_there c.self.inside.ports.items c.self.inside.passed _ c.self.view_is c.requires.in_setup c.index-index.ensures.from_one c.index_mut-lazy.ensures.value c.catch_up.new.self.port c.catch_up.ensures.port
 
-  -- the link as it is after the call
-  abbrev next : LazyLink
+  -- the port as it is after the call
+  abbrev next : LazyPort
   next = record { port = c.take_at.new.port; taken = c.catch_up.new.self.taken }
 
   -- its clock didn't go back
@@ -46,15 +46,15 @@ module _ (g : Over) (c : After-take_at g) where
       c.take_at.ensures.took c.take_at.ensures.err
 
   -- and what the server is seen to be
-  seen : state_at c.take_at.new.ecu (seen_links c.self.inside.passed (slice_set c.self.inside.links.items c.index-index.result next))
-      ≡ state_at c.take_at.new.ecu (slice_set (seen_links c.self.inside.passed c.self.inside.links.items) c.index-index.result next.port)
-  seen = seen_after c.self.inside.passed c.index-index.result c.self.inside.links.items next c.catch_up.ensures.taken told.1 c.take_at.new.ecu
+  seen : state_at c.take_at.new.ecu (seen_ports c.self.inside.passed (slice_set c.self.inside.ports.items c.index-index.result next))
+      ≡ state_at c.take_at.new.ecu (slice_set (seen_ports c.self.inside.passed c.self.inside.ports.items) c.index-index.result next.port)
+  seen = seen_after c.self.inside.passed c.index-index.result c.self.inside.ports.items next c.catch_up.ensures.taken told.1 c.take_at.new.ecu
 
 pub invariant_of-self : goal.invariant_of-self
 invariant_of-self g c =
     let after = (goal.at.invariant_of-self g c).After-take_at in
     let told = told g after in
-    set_lazy c.self.inside.passed c.index-index.result c.self.inside.links.items (next g after) c.self.invariant
+    set_lazy c.self.inside.passed c.index-index.result c.self.inside.ports.items (next g after) c.self.invariant
     (caught_still c.self.inside.passed (next g after) c.catch_up.ensures.taken c.take_at.ensures.rest
     (omega (arith, told.0, c.catch_up.ensures.lazy.told, c.catch_up.ensures.taken)) told.1)
 

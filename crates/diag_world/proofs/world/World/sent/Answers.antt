@@ -2,7 +2,7 @@ use Rattle.std.proofs.Common.{ap, sym, ◌∙◌}
 use Rattle.diag_setup.specs.Setup.{link_of}
 use Rattle.diag_desk.specs.Timed.{own_timed, timed}
 use Rattle.diag_port.specs.Late.{pace_of}
-use Rattle.diag_port.specs.Placing.{drawn}
+use Rattle.diag_port.specs.Releasing.{drawn}
 use Rattle.diag_world.specs.Weaving.{items_of}
 use Rattle.diag_world.proofs.Standing.{frames_of}
 use Rattle.diag_world.proofs.world.World.sent.Goals as goal

@@ -1,8 +1,0 @@
-use Rattle.std.proofs.Common.{Ok}
-use Rattle.std.specs.declared.alloc.AllocError.{AllocError}
-use Rattle.diag_bus.specs.Requests.{functional_to_all}
-use Rattle.uds_unit.specs.Going.{Passed}
-use Rattle.uds_unit.proofs.going.Going.give_functional.Given as goal
-
-abbrev pub invariant-loop-index : goal.invariant-loop-index
-invariant-loop-index l = Passed {A = Unit {0}} {E = AllocError} l.initial.self l.self 0 (functional_to_all l.setup l.frame.id l.index l.frame.bytes) (Ok tt)

@@ -1,0 +1,39 @@
+use Rattle.std.proofs.Common.{◌≡◌, length, refl, ap, sym, arith}
+use Rattle.std.proofs.lemmas.Result.{err_from_is_err_and}
+use Rattle.diag_world.proofs.Worlds.{who_found}
+use Rattle.diag_bus.specs.RequestIds.{functional_to_all}
+use Rattle.diag_bus.proofs.Nodes.{functional_more}
+use Rattle.diag_bus.proofs.Paces.{has_left}
+use Rattle.uds_unit.proofs.Passing.{passed_as, passed_err, passed_none, passed_then}
+use Rattle.uds_unit.proofs.node.Node.give_functional.Goals as goal
+
+pub loop-index-init : goal.loop-index-init
+loop-index-init c = passed_none c.args.self.now 0
+
+pub give_functional_to-requires : goal.give_functional_to-requires
+give_functional_to-requires c =
+    let inv = c.loop-index.invariant in
+    let who = who_found c.args.setup.now c.loop-index.index c.in-Some.who c.in-Some.ensures in
+    let within = c.testers-index-end.ensures.same in
+    record {
+      known = omega (arith, who, within, c.loop-index-test.true);
+      in_setup = omega (arith, who, within, c.loop-index-test.true, inv.shape.ports, c.requires.in_setup);
+      lists = omega (arith, inv.shape.ports, inv.shape.lists, c.requires.in_setup, c.requires.lists);
+      early = has_left c.args.self.now.server c.loop-index.self.server 0 0 0 (omega arith) c.requires.early inv.pace;
+    }
+
+pub loop-index-preserved : goal.loop-index-preserved
+loop-index-preserved c =
+    let who = who_found c.args.setup.now c.loop-index.index c.in-Some.who c.in-Some.ensures in
+    passed_as refl (sym (functional_more c.args.setup.now c.args.frame.now.id c.args.frame.now.bytes c.loop-index.index c.in-Some.who who))
+    (passed_then 0 (omega arith) c.loop-index.invariant c.in_ok-give_functional_to.ensures)
+
+pub returns-in_err-give_functional_to : goal.returns-in_err-give_functional_to
+returns-in_err-give_functional_to c =
+    passed_err 0 _ (omega arith) (err_from_is_err_and c.from_residual.result c.from_residual.ensures.1).1
+    (passed_then 0 (omega arith) c.loop-index.invariant c.in_err-give_functional_to.ensures)
+
+pub returns : goal.returns
+returns c =
+    let ended : c.loop-index.index ≡ length c.args.setup.now.testers = omega (arith, c.testers-index-end.ensures.same, c.loop-index.auto.index-end, c.loop-index-test.false) in
+    passed_as refl (ap (λ n. functional_to_all c.args.setup.now c.args.frame.now.id n c.args.frame.now.bytes) ended) c.loop-index.invariant
