@@ -1,5 +1,5 @@
 -- That the ticks of a live run keep pace with the clock.
-use Rattle.std.specs.Prelude.{◌≡◌, ◌⊎◌, ◌≤◌, ◌^◌, ℕ, ◌+◌, ◌-◌, min, max, Bool, List, [], ◌∷◌, ◌++◌, length, map, drop, Option, Some, None}
+use Rattle.std.specs.Prelude.{◌≡◌, ◌⊎◌, ◌≤◌, ◌^◌, ℕ, ◌+◌, ◌-◌, min, max, List, [], ◌∷◌, ◌++◌, length, map, drop, Option, Some, None}
 use Rattle.diag_can.specs.BusLine.{begun_line, ended_lines}
 use Rattle.diag_setup.specs.declared.raw.RawSetup.{RawSetup}
 use Rattle.diag_bus.specs.Bus.{BusState, TookLines}
@@ -43,9 +43,9 @@ pub record IsAsked (setup : RawSetup) (told : ℕ) (taken : List Taken) (turn : 
   pub until : turn.until ≡ min (told + quiet_of bus.server.ports) (2 ^ 64 - 1)
   pub block : turn.in_block ≡ some_in_block bus.server.ports
 
--- These are the steps of a run that goes on: the clock told a moment, and then turn by turn the bench was asked what comes until
--- something falls due. It told this moment last (the latest, where the clock goes back); these bytes were heard, and of them and the
--- time this was taken.
+-- These are the steps of a run that goes on: the clock told a moment, and then turn by turn the bench was asked what comes
+-- until something falls due. It told this moment last (the latest, where the clock goes back); these bytes were heard, and of
+-- them and the time this was taken.
 pub data Paced (setup : RawSetup) : List Step → ℕ → List ℕ → List Taken → Type 0 where
   began : {now : ℕ} → Paced setup (Told now ∷ []) now [] []
   turned : {steps : List Step} {told : ℕ} {seen : List ℕ} {taken : List Taken} → Paced setup steps told seen taken
@@ -57,9 +57,10 @@ pub data Paced (setup : RawSetup) : List Step → ℕ → List ℕ → List Take
 abbrev pub Did : {B : Type 0} → (B → List Step → Type 0) → B → B → List Step → Type 0
 Did story old new steps = (past : List Step) → story old past → story new (past ++ steps)
 
--- The ticks of what was taken are those that the bench's clock told, turn by turn until it told the end of the input, which ends a
--- line that is begun.
-pub record KeepsPace {B : Type 0} (story : B → List Step → Type 0) (setup : RawSetup) (old new : B) (taken : List Taken) : Type 0 where
+-- The ticks of what was taken are those that the bench's clock told, turn by turn until the end of the input was heard, which
+-- ends a line that is begun.
+pub record KeepsPace {B : Type 0} (story : B → List Step → Type 0) (setup : RawSetup) (old new : B) (taken : List Taken)
+    : Type 0 where
   pub steps : List Step
   pub last : Turn
   pub did : Did story old new (steps ++ steps_of last)

@@ -1,5 +1,5 @@
 -- What is kept of a live run between two calls of its bench, and how a call goes.
-use Rattle.std.specs.Prelude.{◌≡◌, ◌⊎◌, ◌<◌, ◌≤◌, ◌^◌, ℕ, ◌+◌, ◌-◌, min, max, Bool, true, false, List, [], ◌∷◌, ◌++◌, length, Option, Some}
+use Rattle.std.specs.Prelude.{◌≡◌, ◌⊎◌, ◌<◌, ◌≤◌, ◌^◌, ℕ, ◌+◌, ◌-◌, min, max, Bool, true, false, List, [], ◌++◌, length, Option, Some}
 use Rattle.std.specs.Io.KnownBytes.{Appends, Consumes, IsAtEnd, Keeps}
 use Rattle.diag_can.specs.BusLine.{begun_line, bus_lines, ended_lines}
 use Rattle.diag_setup.specs.Setup.{known_ids}
@@ -96,12 +96,13 @@ pub record AsksUntilDue (Does : List Step → Type 0) (old : Serving) (turn : Tu
   pub block : turn.in_block ≡ some_in_block old.capture.bus.server.ports
 
 -- so much was heard, written and recorded, and the run goes on; or the input has ended, and its last line was taken
-abbrev pub Turned : (List Step → Type 0) → Serving → Serving → (input input' out out' noted noted' : Option (List ℕ)) → Bool → Type 0
-Turned Does old new input input' out out' noted noted' true = (turn : Turn) × AsksUntilDue Does old turn × Takes input input' (λ bytes.
-    Sends out out' (λ sent. Sends noted noted' (λ recorded.
+abbrev pub Turned : (List Step → Type 0) → Serving → Serving → (input input' out out' noted noted' : Option (List ℕ)) → Bool
+    → Type 0
+Turned Does old new input input' out out' noted noted' true = (turn : Turn) × AsksUntilDue Does old turn
+    × Takes input input' (λ bytes. Sends out out' (λ sent. Sends noted noted' (λ recorded.
     (heard_bytes turn.heard ≡ Some bytes) × ServingGoesOn old new turn.now bytes sent recorded)))
-Turned Does old new input input' out out' noted noted' false = (turn : Turn) × AsksUntilDue Does old turn × (turn.heard ≡ heard.End)
-    × Keeps input input' × IsAtEnd input' × Sends out out' (λ sent. Sends noted noted' (λ recorded.
+Turned Does old new input input' out out' noted noted' false = (turn : Turn) × AsksUntilDue Does old turn
+    × (turn.heard ≡ heard.End) × Keeps input input' × IsAtEnd input' × Sends out out' (λ sent. Sends noted noted' (λ recorded.
     ServingGoesOn old new turn.now (last_feed old.hearing.kept.items) sent recorded))
 
 -- the fault came with these bytes; or at the end of the input
@@ -118,8 +119,8 @@ CannotHear Does input input' out out' noted noted' fault = (fault ≡ Read 1)
     × ((turn : Turn) × (turn.heard ≡ heard.Fault) × Does (steps_of turn))
 
 -- so much was heard, written and recorded since the run began, by what the bench did
-pub record SoFar (Does : List Step → Type 0) (setup : RawSetup) (serving : Serving) (input input' out out' noted noted' : Option (List ℕ))
-    : Type 0 where
+pub record SoFar (Does : List Step → Type 0) (setup : RawSetup) (serving : Serving)
+    (input input' out out' noted noted' : Option (List ℕ)) : Type 0 where
   pub set : serving.capture.bus.setup ≡ setup
   pub seen : List ℕ
   pub read : Consumes input input' seen
