@@ -1,8 +1,8 @@
 -- A live run from its begin to its end.
-use Rattle.std.proofs.Common.{◌≡◌, ◌⊎◌, ℕ, ◌-◌, ◌<◌, ◌≤◌, ◌^◌, max, Bool, true, false, List, [], ◌∷◌, ◌++◌, length, Option, None, Some, IfSome, inl, inr, refl, sym, ap, subst, ◌∙◌, append_assoc, arith}
+use Rattle.std.proofs.Common.{◌≡◌, ◌⊎◌, ℕ, ◌+◌, ◌-◌, ◌<◌, ◌≤◌, ◌^◌, min, max, Bool, true, false, List, [], ◌∷◌, ◌++◌, length, Option, None, Some, IfSome, Result, Err, inl, inr, refl, sym, ap, subst, ◌∙◌, append_assoc, arith}
 use Rattle.std.proofs.lemmas.List.{append-nil}
-use Rattle.std.specs.Io.KnownBytes.{Appends, IsAtEnd, Keeps}
-use Rattle.std.proofs.KnownBytes.{Appends-kept, Appends-nil, Appends-trans, Consumes-kept, Consumes-nil, Consumes-trans}
+use Rattle.std.specs.Io.KnownBytes.{Appends, Consumes, IsAtEnd, Keeps}
+use Rattle.std.proofs.KnownBytes.{Keeps-refl, Appends-kept, Appends-nil, Appends-trans, Consumes-kept, Consumes-nil, Consumes-trans}
 use Rattle.diag_can.specs.BusLine.{HasNoFeed, begun_line, bus_lines, ended_lines}
 use Rattle.diag_can.proofs.BusLines.{begun_line-line, bus_lines-begun, bus_lines-ended, ended_lines-line}
 use Rattle.diag_setup.specs.Setup.{known_ids}
@@ -10,12 +10,15 @@ use Rattle.diag_setup.specs.declared.raw.RawSetup.{RawSetup}
 use Rattle.diag_bus.specs.Events.{events_of, first_fault, unless_fault}
 use Rattle.diag_bus.specs.Text.{text_of}
 use Rattle.diag_bus.proofs.Runs.{run}
+use Rattle.diag_text.specs.Bytes.{Sends}
 use Rattle.diag_text.specs.declared.fault.RunFault.{RunFault}
 use Rattle.diag_text.specs.declared.fault.RunFault.TheVariants as fault
 use Rattle.diag_bus.specs.Bus.{TookLines}
 use Rattle.diag_run.specs.Wanted.{any_lines}
+use Rattle.diag_world.specs.Block.{some_in_block}
+use Rattle.diag_world.specs.Server.{quiet_of}
 use Rattle.diag_live.specs.Live.{AreGood, Taken, capture_of, record_text}
-use Rattle.diag_live.specs.Pace.{Did, GaveUp, IsAsked, KeepsPace, Paced, began, given, last_feed, taken_at, turned}
+use Rattle.diag_live.specs.Pace.{Did, GaveUp, IsAsked, KeepsPace, Paced, began, heard_bytes, last_feed, taken_at, times_asked, turned}
 use Rattle.diag_live.specs.Story.{Asked, Step, Told, Turn, steps_of}
 use Rattle.diag_live.specs.declared.bench.Heard.{Heard as AHeard}
 use Rattle.diag_live.specs.declared.bench.Heard.TheVariants as heard
@@ -143,11 +146,21 @@ module _ (setup : RawSetup) where
 module _ {B : Type 0} (story : B → List Step → Type 0) (first was is : B) (setup : RawSetup) (old new : Serving) (i i' i'' o o' o'' r r' r'' : Option (List ℕ))
     (so_far : SoFar (Did story first was) setup old i i' o o' r r') where
   -- what the bench did goes on
-  did_more : (more : List Step) → Did story was is more → Did story first is (so_far.steps ++ more)
+  pub did_more : (more : List Step) → Did story was is more → Did story first is (so_far.steps ++ more)
   did_more more did = λ past h. subst (story is) (append_assoc past so_far.steps more) (did (past ++ so_far.steps) (so_far.did past h))
 
+  -- asked until something falls due
+  asked_here : (turn : Turn) → AsksUntilDue (Did story was is) old turn → IsAsked setup old.told so_far.stands.taken turn
+  asked_here turn asks = record {
+    bus = old.capture.bus;
+    set = so_far.set;
+    took = subst (TookLines any_lines old.capture.bus) so_far.stands.lines so_far.stands.capture.took_lines;
+    until = asks.until;
+    block = asks.block;
+  }
+
   -- and so do the ticks
-  paced_more : (turn : Turn) → AsksUntilDue (Did story was is) old turn → (bytes sent noted : List ℕ) → bytes ≡ given so_far.seen turn.heard
+  pub paced_more : (turn : Turn) → AsksUntilDue (Did story was is) old turn → (bytes sent noted : List ℕ) → heard_bytes turn.heard ≡ Some bytes
       → (on : ServingGoesOn old new turn.now bytes sent noted)
       → Paced setup (so_far.steps ++ steps_of turn) new.told (so_far.seen ++ bytes)
       (on.stands so_far.seen so_far.wrote so_far.recorded so_far.stands).0.taken
@@ -155,21 +168,11 @@ module _ {B : Type 0} (story : B → List Step → Type 0) (first was is : B) (s
       let s = so_far.stands in
       let seen = so_far.seen in
       let steps = so_far.steps ++ steps_of turn in
-      let told = max old.told turn.now in
-      let asked : IsAsked setup old.told s.taken turn = record {
-        bus = old.capture.bus;
-        set = so_far.set;
-        took = subst (TookLines any_lines old.capture.bus) s.lines s.capture.took_lines;
-        until = asks.until;
-        block = asks.block;
-      } in
-      let first : Paced setup steps told (seen ++ given seen turn.heard) (s.taken ++ taken_at old.told turn.now seen (given seen turn.heard)) =
-      turned so_far.paced turn asked in
-      let second : Paced setup steps told (seen ++ bytes) (s.taken ++ taken_at old.told turn.now seen bytes) =
-      subst (λ (b : List ℕ). Paced setup steps told (seen ++ b) (s.taken ++ taken_at old.told turn.now seen b)) (sym same) first in
-      let third : Paced setup steps new.told (seen ++ bytes) (s.taken ++ taken_at old.told turn.now seen bytes) =
-      subst (λ (m : ℕ). Paced setup steps m (seen ++ bytes) (s.taken ++ taken_at old.told turn.now seen bytes)) (sym on.told) second in
-      subst (λ (t : List Taken). Paced setup steps new.told (seen ++ bytes) t) (sym (on.stands seen so_far.wrote so_far.recorded s).1) third
+      let first : Paced setup steps (max old.told turn.now) (seen ++ bytes) (s.taken ++ taken_at old.told turn.now seen bytes) =
+      turned so_far.paced turn (asked_here turn asks) bytes same in
+      let second : Paced setup steps new.told (seen ++ bytes) (s.taken ++ taken_at old.told turn.now seen bytes) =
+      subst (λ (m : ℕ). Paced setup steps m (seen ++ bytes) (s.taken ++ taken_at old.told turn.now seen bytes)) (sym on.told) first in
+      subst (λ (t : List Taken). Paced setup steps new.told (seen ++ bytes) t) (sym (on.stands seen so_far.wrote so_far.recorded s).1) second
 
   abbrev pub turned_on : Turned (Did story was is) old new i' i'' o' o'' r' r'' true → SoFar (Did story first is) setup new i i'' o o'' r r''
   turned_on t =
@@ -177,7 +180,7 @@ module _ {B : Type 0} (story : B → List Step → Type 0) (first was is : B) (s
       let bytes = t.2.0 in
       let sent = t.2.2.0 in
       let noted = t.2.2.2.0 in
-      let same = t.2.2.2.2.0 so_far.seen in
+      let same = t.2.2.2.2.0 in
       let on = t.2.2.2.2.1 in
       record {
         set = on.setup ∙ so_far.set;
@@ -204,7 +207,6 @@ module _ {B : Type 0} (story : B → List Step → Type 0) (first was is : B) (s
       let feed = last_feed old.hearing.kept.items in
       let before = so_far.stands in
       let s = (on.stands so_far.seen so_far.wrote so_far.recorded before).0 in
-      let same_feed : feed ≡ given so_far.seen turn.heard = ap last_feed before.follows.kept ∙ sym (ap (given so_far.seen) t.2) in
       let kept = before.follows.kept in
       let lines : bus_lines so_far.seen ≡ ended_lines (so_far.seen ++ feed) =
       sym (end_lines so_far.seen old.hearing.kept.items kept) ∙ bus_lines-ended (so_far.seen ++ feed) (end_begun so_far.seen old.hearing.kept.items kept) in
@@ -221,11 +223,17 @@ module _ {B : Type 0} (story : B → List Step → Type 0) (first was is : B) (s
         heard = s.heard ∙ sym lines;
         good = subst (λ (u : RawSetup). AreGood (known_ids u) s.taken) same s.good;
         paced = record {
-          steps = so_far.steps ++ steps_of turn;
+          steps = so_far.steps;
+          last = turn;
           did = did_more (steps_of turn) t.1.did;
-          told = new.told;
-          seen = so_far.seen ++ feed;
-          paced = paced_more turn t.1 feed sent noted same_feed on;
+          told = old.told;
+          seen = so_far.seen;
+          before = before.taken;
+          paced = so_far.paced;
+          asked = asked_here turn t.1;
+          ended = t.2;
+          all = (on.stands so_far.seen so_far.wrote so_far.recorded before).1
+              ∙ ap (λ (k : List ℕ). before.taken ++ taken_at old.told turn.now so_far.seen (last_feed k)) before.follows.kept;
         };
         M = M;
         events = ap (unless_fault M) (ap (first_fault setup) read ∙ well);
@@ -292,16 +300,41 @@ module _ {B : Type 0} (story : B → List Step → Type 0) (first was is : B) (s
 
 -- ---- what a turn asks
 
+-- it is asked once more in a turn
+pub times_asked-turn : (steps : List Step) (turn : Turn) → times_asked (steps ++ steps_of turn) ≡ times_asked steps + 1
+times_asked-turn [] turn = refl
+times_asked-turn (Asked until in_block heard ∷ steps) turn = omega (arith, times_asked-turn steps turn)
+times_asked-turn (Told now ∷ steps) turn = times_asked-turn steps turn
+
 abbrev pub turn_with : ℕ → Bool → AHeard → ℕ → Turn
 turn_with until in_block heard now = record { until = until; in_block = in_block; heard = heard; now = now }
 
--- the bench was asked what comes, and then for the moment
-pub did_turn : {B : Type 0} (story : B → List Step → Type 0) (b0 b1 b2 : B) (until : ℕ) (in_block : Bool) (heard : AHeard) (now : ℕ)
-    → ((past : List Step) → story b0 past → story b1 (past ++ Asked until in_block heard ∷ []))
-    → ((past : List Step) → story b1 past → story b2 (past ++ Told now ∷ []))
-    → Did story b0 b2 (steps_of (turn_with until in_block heard now))
-did_turn {B} story b0 b1 b2 until in_block heard now asked told =
-    λ past h. subst (story b2) (append_assoc past (Asked until in_block heard ∷ []) (Told now ∷ [])) (told (past ++ Asked until in_block heard ∷ []) (asked past h))
+module _ {B : Type 0} (story : B → List Step → Type 0) (b0 b1 b2 : B) (until : ℕ) (in_block : Bool) (came : AHeard) (now : ℕ)
+    (asked : (past : List Step) → story b0 past → story b1 (past ++ Asked until in_block came ∷ []))
+    (told : (past : List Step) → story b1 past → story b2 (past ++ Told now ∷ [])) where
+  -- the bench was asked what comes, and then for the moment
+  pub did_turn : Did story b0 b2 (steps_of (turn_with until in_block came now))
+  did_turn =
+      λ past h. subst (story b2) (append_assoc past (Asked until in_block came ∷ []) (Told now ∷ [])) (told (past ++ Asked until in_block came ∷ []) (asked past h))
+
+  module _ (old : Serving) (due : until ≡ min (old.told + quiet_of old.capture.bus.server.ports) (2 ^ 64 - 1))
+      (block : in_block ≡ some_in_block old.capture.bus.server.ports) where
+    asks : AsksUntilDue (Did story b0 b2) old (turn_with until in_block came now)
+    asks = record { did = did_turn; until = due; block = block }
+
+    module _ (new : Serving) (i i' o o' r r' : Option (List ℕ)) where
+      pub turn_goes_on : (bytes : List ℕ) → Consumes i i' bytes → heard_bytes came ≡ Some bytes
+          → Sends o o' (λ sent. Sends r r' (λ noted. ServingGoesOn old new now bytes sent noted))
+          → Turned (Did story b0 b2) old new i i' o o' r r' true
+      turn_goes_on bytes read are d = (turn_with until in_block came now, asks, (bytes, read, (d.0, d.1, (d.2.0, d.2.1, (are, d.2.2)))))
+
+      pub turn_ends : came ≡ heard.End → Keeps i i' → IsAtEnd i'
+          → Sends o o' (λ sent. Sends r r' (λ noted. ServingGoesOn old new now (last_feed old.hearing.kept.items) sent noted))
+          → Turned (Did story b0 b2) old new i i' o o' r r' false
+      turn_ends ended kept end d = (turn_with until in_block came now, asks, ended, kept, end, d)
+
+  pub turn_unheard : came ≡ heard.Fault → (i i' o r : Option (List ℕ)) → Keeps i i' → CannotHear (Did story b0 b2) i i' o o r r (fault.Read 1)
+  turn_unheard is i i' o r kept = (refl, kept, Keeps-refl o, Keeps-refl r, (turn_with until in_block came now, is, did_turn))
 
 -- ---- where it gives up
 
@@ -327,7 +360,7 @@ module _ {B : Type 0} (story : B → List Step → Type 0) (first was is : B) (s
   gives_up came (inr c) same = gave_up (steps_of c.4.0) c.4.2 c.4.0 c.4.1 refl
 
   -- after so many turns
-  pub gives_up_behind : 2 ^ 64 - 1 ≤ length so_far.steps → was ≡ is → GaveUp story first is
+  pub gives_up_behind : 2 ^ 64 - 1 ≤ times_asked so_far.steps → was ≡ is → GaveUp story first is
   gives_up_behind many same = subst (GaveUp story first) same (record { steps = so_far.steps; did = so_far.did; why = inr many })
 
 -- ---- a turn
@@ -336,3 +369,7 @@ module _ {B : Type 0} (story : B → List Step → Type 0) (first was is : B) (s
 pub turn_refused : (Does : List Step → Type 0) (old : Serving) (i i' o r : Option (List ℕ)) → Keeps i i'
     → HaltsWith old i i' o o r r fault.Memory ⊎ CannotHear Does i i' o o r r fault.Memory
 turn_refused Does old i i' o r kept = inl (inl ([], Consumes-kept i i i' [] (Consumes-nil i) kept, ([], Appends-nil o, ([], Appends-nil r, refused_halts old []))))
+
+-- a fault that is answered is this one
+pub err_same : {X : Type 0} (f g : RunFault) → ◌≡◌ {A = Result X RunFault} (Err f) (Err g) → f ≡ g
+err_same {X} f g same = cc

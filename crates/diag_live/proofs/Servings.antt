@@ -53,7 +53,7 @@ pub record Brings (known text : List ℕ) (ticks : ℕ) (seen piece : List ℕ) 
   pub fresh : Fresh known ticks text lines
   pub front : (rest : List ℕ) → AreFront (ended_lines seen ++ lines) (bus_lines ((seen ++ piece) ++ rest))
 
-text_join : (a b : List Taken) → record_text (capture_of (a ++ b)) ≡ record_text (capture_of a) ++ record_text (capture_of b)
+pub text_join : (a b : List Taken) → record_text (capture_of (a ++ b)) ≡ record_text (capture_of a) ++ record_text (capture_of b)
 text_join a b = ap record_text (capture_of-append a b) ∙ record_text-append (capture_of a) (capture_of b)
 
 abbrev pub fresh_lines : (known : List ℕ) (span : ℕ) (ticks : ℕ) (before text more : List ℕ) (lines : List (List ℕ)) → before ≡ record_text (capture_of (passed span))
@@ -323,10 +323,10 @@ module _ (old : Serving) (piece text : List ℕ) (ticks : ℕ) (brings : (seen :
 module _ (old new : Serving) (text sent noted : List ℕ) (ticks : ℕ) (seen wrote before : List ℕ) (s : ServingStands old seen wrote before)
     (lines : List (List ℕ)) (f : Fresh (known_ids old.capture.bus.setup) ticks text lines)
     (d : Delivered old.capture new.capture text sent noted) where
-  on_from : Stands any_lines replies_wanted new.capture (before ++ text) (wrote ++ sent)
+  pub on_from : Stands any_lines replies_wanted new.capture (before ++ text) (wrote ++ sent)
   on_from = d.on.stands before wrote s.capture
 
-  noted_here : before ++ noted ≡ before ++ text
+  pub noted_here : before ++ noted ≡ before ++ text
   noted_here = ap (λ (t : List ℕ). before ++ t) d.whole
 
   pub delivered_text : wrote ++ sent ≡ text_of old.capture.bus.setup (capture_of (all old seen wrote before s text ticks lines f))

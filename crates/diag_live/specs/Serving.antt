@@ -1,5 +1,5 @@
 -- What is kept of a live run between two calls of its bench, and how a call goes.
-use Rattle.std.specs.Prelude.{◌≡◌, ◌⊎◌, ◌<◌, ◌≤◌, ◌^◌, ℕ, ◌+◌, ◌-◌, min, max, Bool, true, false, List, [], ◌∷◌, ◌++◌, length, Option}
+use Rattle.std.specs.Prelude.{◌≡◌, ◌⊎◌, ◌<◌, ◌≤◌, ◌^◌, ℕ, ◌+◌, ◌-◌, min, max, Bool, true, false, List, [], ◌++◌, length, Option, Some}
 use Rattle.std.specs.Io.KnownBytes.{Appends, Consumes, IsAtEnd, Keeps}
 use Rattle.diag_can.specs.BusLine.{begun_line, bus_lines, ended_lines}
 use Rattle.diag_setup.specs.Setup.{known_ids}
@@ -17,7 +17,7 @@ use Rattle.diag_text.specs.declared.fault.RunFault.{RunFault}
 use Rattle.diag_text.specs.declared.fault.RunFault.TheVariants.{Capture as CaptureLine, Read}
 use Rattle.diag_live.specs.Hearing.{HasHeard}
 use Rattle.diag_live.specs.Live.{AreGood, Taken, capture_of, lines_of, record_text}
-use Rattle.diag_live.specs.Pace.{Paced, given, last_feed, taken_at}
+use Rattle.diag_live.specs.Pace.{Paced, heard_bytes, last_feed, taken_at}
 use Rattle.diag_live.specs.Story.{Step, Turn, steps_of}
 use Rattle.diag_live.specs.declared.bench.Heard.TheVariants as heard
 use Rattle.diag_world.specs.Block.{some_in_block}
@@ -96,12 +96,13 @@ pub record AsksUntilDue (Does : List Step → Type 0) (old : Serving) (turn : Tu
   pub block : turn.in_block ≡ some_in_block old.capture.bus.server.ports
 
 -- so much was heard, written and recorded, and the run goes on; or the input has ended, and its last line was taken
-abbrev pub Turned : (List Step → Type 0) → Serving → Serving → (input input' out out' noted noted' : Option (List ℕ)) → Bool → Type 0
-Turned Does old new input input' out out' noted noted' true = (turn : Turn) × AsksUntilDue Does old turn × Takes input input' (λ bytes.
-    Sends out out' (λ sent. Sends noted noted' (λ recorded.
-    ((seen : List ℕ) → bytes ≡ given seen turn.heard) × ServingGoesOn old new turn.now bytes sent recorded)))
-Turned Does old new input input' out out' noted noted' false = (turn : Turn) × AsksUntilDue Does old turn × (turn.heard ≡ heard.End)
-    × Keeps input input' × IsAtEnd input' × Sends out out' (λ sent. Sends noted noted' (λ recorded.
+abbrev pub Turned : (List Step → Type 0) → Serving → Serving → (input input' out out' noted noted' : Option (List ℕ)) → Bool
+    → Type 0
+Turned Does old new input input' out out' noted noted' true = (turn : Turn) × AsksUntilDue Does old turn
+    × Takes input input' (λ bytes. Sends out out' (λ sent. Sends noted noted' (λ recorded.
+    (heard_bytes turn.heard ≡ Some bytes) × ServingGoesOn old new turn.now bytes sent recorded)))
+Turned Does old new input input' out out' noted noted' false = (turn : Turn) × AsksUntilDue Does old turn
+    × (turn.heard ≡ heard.End) × Keeps input input' × IsAtEnd input' × Sends out out' (λ sent. Sends noted noted' (λ recorded.
     ServingGoesOn old new turn.now (last_feed old.hearing.kept.items) sent recorded))
 
 -- the fault came with these bytes; or at the end of the input
@@ -118,8 +119,8 @@ CannotHear Does input input' out out' noted noted' fault = (fault ≡ Read 1)
     × ((turn : Turn) × (turn.heard ≡ heard.Fault) × Does (steps_of turn))
 
 -- so much was heard, written and recorded since the run began, by what the bench did
-pub record SoFar (Does : List Step → Type 0) (setup : RawSetup) (serving : Serving) (input input' out out' noted noted' : Option (List ℕ))
-    : Type 0 where
+pub record SoFar (Does : List Step → Type 0) (setup : RawSetup) (serving : Serving)
+    (input input' out out' noted noted' : Option (List ℕ)) : Type 0 where
   pub set : serving.capture.bus.setup ≡ setup
   pub seen : List ℕ
   pub read : Consumes input input' seen

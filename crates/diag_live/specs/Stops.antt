@@ -19,7 +19,8 @@ use Rattle.diag_live.specs.Live.{AreGood, Taken, capture_of, lines_of, record_te
 -- The input was heard to its end, and no line of it is at fault. Its lines, in their order, with ticks between them, are
 -- one capture, of which there is one legal run. The record has this capture and nothing else, and what the bus writes of
 -- it was written and nothing else: the frames of that run. The ticks keep the pace that is asked.
-pub record Lived (Paces : List Taken → Type 0) (setup : RawSetup) (input input' out out' noted noted' : Option (List ℕ)) : Type 0 where
+pub record Lived (Paces : List Taken → Type 0) (setup : RawSetup)
+    (input input' out out' noted noted' : Option (List ℕ)) : Type 0 where
   pub bytes : List ℕ
   pub read : Consumes input input' bytes
   pub end : IsAtEnd input'
@@ -135,7 +136,8 @@ pub record Stopped (setup : RawSetup) (input input' out out' noted noted' : Opti
 -- ---- behind the config
 
 -- the config was read whole, and says a setup that was lived with
-pub record LivedWith (Paces : RawSetup → List Taken → Type 0) (config config' input input' out out' noted noted' : Option (List ℕ)) : Type 0 where
+pub record LivedWith (Paces : RawSetup → List Taken → Type 0)
+    (config config' input input' out out' noted noted' : Option (List ℕ)) : Type 0 where
   pub setup : RawSetup
   pub says : SaysSetup config config' setup
   pub lived : Lived (Paces setup) setup input input' out out' noted noted'

@@ -60,7 +60,8 @@ fn turn<B: Bench, W: Write, R: Write>(
     out: &mut W,
     recorder: &mut R,
 ) -> Result<bool, RunFault>
-    ensures ok { IfOk result (Turned (Did B.story bench.old bench.new) serving.old serving.new (B.remaining bench.old) (B.remaining bench.new)
+    ensures ok { IfOk result (Turned (Did B.story bench.old bench.new) serving.old serving.new
+        (B.remaining bench.old) (B.remaining bench.new)
         (W.contents out.old) (W.contents out.new) (R.contents recorder.old) (R.contents recorder.new)) }
     ensures err { IfErr result (λ fault. HaltsWith serving.old
         (B.remaining bench.old) (B.remaining bench.new)
@@ -101,7 +102,8 @@ fn run_live<C: Read, B: Bench, W: Write, R: Write>(
     out: &mut W,
     recorder: &mut R,
 ) -> Result<(), RunFault>
-    ensures done { OnOk result (LivedWith (λ setup. KeepsPace B.story setup bench.old bench.new) (C.remaining config.old) (C.remaining config.new)
+    ensures done { OnOk result (LivedWith (λ setup. KeepsPace B.story setup bench.old bench.new)
+        (C.remaining config.old) (C.remaining config.new)
         (B.remaining bench.old) (B.remaining bench.new)
         (W.contents out.old) (W.contents out.new) (R.contents recorder.old) (R.contents recorder.new)) }
     ensures fault { IfErr result (StoppedWith B.remaining (C.remaining config.old) (C.remaining config.new)
@@ -125,7 +127,8 @@ pub fn run_live_and_tell<C: Read + Drop, B: Bench + Drop, W: Write, R: Write>(
 ) -> Outcome
     ensures status { DoneOf (λ status. status ≡ 0) result }
     ensures done { DoneOf (λ _. (config' : C) × (bench' : B)
-        × LivedWith (λ setup. KeepsPace B.story setup bench bench') (C.remaining config) (C.remaining config') (B.remaining bench) (B.remaining bench')
+        × LivedWith (λ setup. KeepsPace B.story setup bench bench')
+        (C.remaining config) (C.remaining config') (B.remaining bench) (B.remaining bench')
         (W.contents out.old) (W.contents out.new) (R.contents recorder.old) (R.contents recorder.new)) result }
     ensures fault { TellsOf (λ fault. (config' : C) × (bench' : B)
         × StoppedWith B.remaining (C.remaining config) (C.remaining config') bench bench'

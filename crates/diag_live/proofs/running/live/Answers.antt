@@ -1,10 +1,9 @@
-use Rattle.std.proofs.Common.{◌+◌, ◌≤◌, length, length-append, inl, inr, sym, refl, subst, arith, ◌∙◌}
+use Rattle.std.proofs.Common.{inl, inr, sym, refl, subst, arith, ◌∙◌}
 use Rattle.std.proofs.KnownBytes.{Keeps-refl}
 use Rattle.std.proofs.lemmas.Result.{err_from_is_err_and}
 use Rattle.diag_live.specs.Pace.{Did}
-use Rattle.diag_live.specs.Story.{steps_of}
 use Rattle.diag_live.specs.Serving.{Turned}
-use Rattle.diag_live.proofs.Runnings.{begun, gives_up, gives_up_behind, halted, refused_first, turned_off, turned_on, unheard}
+use Rattle.diag_live.proofs.Runnings.{begun, err_same, gives_up, gives_up_behind, halted, refused_first, times_asked-turn, turned_off, turned_on, unheard}
 use Rattle.diag_live.proofs.running.live.Goals as goal
 
 pub returns-in_err-bus-clause-fault : goal.returns-in_err-bus-clause-fault
@@ -45,5 +44,10 @@ loop-turn_number-preserved g c =
     let so_far = c.loop-turn_number.invariant.so_far in
     record {
       so_far = turned_on g.B.Bench.story c.args.bench.now c.loop-turn_number.bench c.turn.new.bench c.args.setup c.loop-turn_number.serving c.turn.new.serving _ _ _ _ _ _ _ _ _ so_far turn;
-      turns = omega (arith, c.loop-turn_number.invariant.turns, length-append so_far.steps (steps_of turn.0));
+      turns = omega (arith, c.loop-turn_number.invariant.turns, times_asked-turn so_far.steps turn.0);
     }
+
+pub returns-in-Err-clause-unheard : goal.returns-in-Err-clause-unheard
+returns-in-Err-clause-unheard g c = λ same.
+    gives_up g.B.Bench.story c.args.bench.now c.loop-turn_number.bench c.turn.new.bench c.args.setup c.loop-turn_number.serving _ _ _ _ _ _ _ _ _ c.loop-turn_number.invariant.so_far
+    c.in-Err.fault c.in-Err.ensures.err (err_same c.in-Err.fault _ same)
