@@ -18,7 +18,7 @@ STAMPS = 35
 # so many programs at a time, each with a reply for each separation time, which comes after so many frames
 RUNS, TIMES, GAPS = 8, range(1, 21), 13
 # how much shorter than its separation time a gap may be, and how much longer the middle one, in ms
-SHORTER, LONGER = 0.05, 1.0
+SHORTER, LONGER = 0.05, 0.3
 # how long and how often the program is stopped, in seconds
 STOP, STOPS = 0.03, (0.05, 0.15)
 # how late another program on this machine wakes, in the middle, in ms: where it is later, no middle one is judged
