@@ -2,9 +2,11 @@
 """Holds `uds_play check` against the program's runs: setups with one thing wrong, each in turn, and with several, of a
 seed. The first line of `check` begins with the fault that a run tells, and names a place; where a run takes the setup
 `check` finds no fault, and its status says which. Each line of `check` tells the line of the setup on which the key or the
-table was written here, and none where that isn't plain.
+table was written here, and none where that isn't plain. Of rows of answers it says which never apply, for an earlier one takes
+all of their requests: those, and no others, for which no request of a few bytes says otherwise.
 The last line is 'N passed, M failed'."""
 import copy
+import itertools
 import os
 import random
 import re
@@ -29,6 +31,12 @@ LISTS = {
     "answer": ("request", "reply", "session", "level", "enter", "after_ms"),
 }
 MOST_ROWS = {"tester": 8, "did": 1024, "code": 4096, "routine": 256, "level": 4, "level.row": 64, "answer": 1024}
+# rows of answers, and the requests, sessions and unlocked levels that tell them apart; 0 is none
+ITEMS = ("22", "2E", "2e", "..")
+REQUESTS = [request for count in (1, 2, 3, 4) for request in itertools.product((0x22, 0x2E, 0x31), repeat=count)]
+ACCESSES = [(1, 0)] + [(session, level) for session in (2, 3) for level in (0, 1, 3)]
+ROW_SETUPS = 300
+TAKEN = re.compile(r"(?:line \d+: )?request of \[\[answer\]\] (\d+) is .*: the row never applies, for \[\[answer\]\] (\d+) with ")
 UNPLACED = "the look at the setup found another first"
 SEVERAL = 400
 # what a line of `check` tells of: a key or, where one is missing, a table
@@ -318,6 +326,37 @@ def compare(folder, name, written, before=b""):
     told(good and wrong is None, name, f"a run says {run!r}, the look at it {wrong or check.stdout[:300]!r}\n{data.decode(errors='replace')}")
 
 
+def random_row(chance):
+    pattern = "".join(chance.choice(ITEMS) for _ in range(chance.randint(1, 3))) + chance.choice(("", "*"))
+    return {"request": pattern, "session": chance.choice((0, 0, 1, 2, 3)), "level": chance.choice((0, 0, 1, 3))}
+
+
+def uses(row):
+    """What a row applies to, each request with a session and an unlocked level."""
+    pattern = row["request"].rstrip("*")
+    items = [pattern[at : at + 2] for at in range(0, len(pattern), 2)]
+    has_length = (lambda n: n >= len(items)) if row["request"].endswith("*") else (lambda n: n == len(items))
+    fitting = [it for it in REQUESTS if has_length(len(it)) and all(item == ".." or int(item, 16) == b for item, b in zip(items, it))]
+    accesses = [it for it in ACCESSES if row["session"] in (0, it[0]) and row["level"] in (0, it[1])]
+    return set(itertools.product(fitting, accesses))
+
+
+def compare_rows(folder, rows):
+    """Whether `check` says of each row that never applies, but by its own session and level, which earlier one takes all."""
+    path = os.path.join(folder, "setup.toml")
+    tree = {**GOOD, "answer": rows}
+    with open(path, "w", encoding="utf-8") as file:
+        file.writelines(f"{key} = {value_text(value)}\n" for key, value in tree.items())
+    check = ran("check", path)
+    found = {int(it[1]): int(it[2]) for it in map(TAKEN.match, check.stdout.splitlines()) if it}
+    every, want = [uses(row) for row in rows], {}
+    for number, own in enumerate(every, 1):
+        takers = [first for first, other in enumerate(every[: number - 1], 1) if own <= other]
+        if own and takers:
+            want[number] = takers[0]
+    told(found == want, "rows", f"{rows}: {want} wanted, {check.stdout!r}")
+
+
 def main():
     told.needs_program()
     every = list(changes())
@@ -333,6 +372,8 @@ def main():
         for _ in range(SEVERAL):
             some = chance.sample(every, 3)
             compare(folder, some, Written(spoilt(some), chance))
+        for _ in range(ROW_SETUPS):
+            compare_rows(folder, [random_row(chance) for _ in range(4)])
     return told.ended()
 
 

@@ -95,6 +95,9 @@ pub struct Key {
     pub need: Need,
 }
 
+/// The most rows of answers.
+pub const MOST_ANSWERS: usize = 1024;
+
 /// The greatest identifier of 11 bits.
 pub const MOST_STANDARD: u32 = 0x7FF;
 
@@ -149,7 +152,7 @@ pub static KEYS: [Key; 52] = [
     unit!("code", Kind::Rows(Table::Code, 4096)),
     unit!("routine", Kind::Rows(Table::Routine, 256)),
     unit!("level", Kind::Rows(Table::Level, 4)),
-    unit!("answer", Kind::Rows(Table::Answer, 1024)),
+    unit!("answer", Kind::Rows(Table::Answer, MOST_ANSWERS)),
     key!("tester.name", "name", Table::Tester, Kind::Name, Need::Must),
     key!(
         "tester.request",
@@ -371,8 +374,8 @@ impl Kind {
         )
     }
 
-    /// What a value of the kind is, in words.
-    pub fn is_what(self) -> &'static str {
+    /// What a value of the kind is, in words, whatever its range.
+    fn is_what(self) -> &'static str {
         match self {
             Kind::Number(..)
             | Kind::Identifier(_)
@@ -394,6 +397,29 @@ impl Kind {
                 "a list of patterns: items of two hex digits or .. each, and maybe one * at its end"
             }
             Kind::Rows(..) => "a list of tables",
+        }
+    }
+}
+
+/// What a value of a kind is, in words, and of a number its range, too.
+#[derive(Clone, Copy)]
+pub struct Wanted(pub Kind);
+
+impl fmt::Display for Wanted {
+    fn fmt<W: fmt::Write>(&self, f: &mut fmt::Formatter<W>) -> fmt::Result {
+        let kind = self.0;
+        match kind {
+            Kind::Identifier(MOST_EXTENDED) => {
+                write!(
+                    f,
+                    "a whole number from 0 to 0x{MOST_STANDARD:X}, with extended = true to 0x{MOST_EXTENDED:X}"
+                )
+            }
+            Kind::Number(..) | Kind::Identifier(_) | Kind::Separation => {
+                write!(f, "a whole number from {kind}")
+            }
+            Kind::SubFunction => write!(f, "{kind}"),
+            _ => f.write_str(kind.is_what()),
         }
     }
 }

@@ -14,6 +14,7 @@ mod odd;
 mod pairs;
 mod places;
 mod syntax;
+mod taken;
 mod value;
 
 use diag_config::{ConfigFault, read_setup};

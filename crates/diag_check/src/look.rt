@@ -2,7 +2,7 @@
 
 use crate::across::latest_answer_ms;
 use crate::finding::{Finding, Meant, Remark, Row, Shown, ShownKey, Spot};
-use crate::keys::{KEYS, Key, Kind, Need, Table};
+use crate::keys::{KEYS, Key, Kind, Need, Table, Wanted};
 use crate::near::nearest;
 use crate::places::Places;
 use crate::value::{is_allowed, is_of_kind, is_pattern, is_template, items};
@@ -135,7 +135,7 @@ impl<'a> Look<'a> {
     fn other_kind(&mut self, key: &Key, value: &Value, row: Row) -> Result<(), AllocError> {
         let name = key.name;
         let kind = key.kind;
-        let what = kind.is_what();
+        let what = Wanted(kind);
         let place = match bad_item(kind, value) {
             Some((number, item)) => {
                 let shown = Shown(item);
@@ -241,6 +241,7 @@ impl<'a> Look<'a> {
         }
         self.decimal(tree, "functional", Row::UNIT)?;
         self.all_templates(tree)?;
+        self.taken(tree)?;
         self.empties(tree)?;
         self.doubles(tree)?;
         self.references(tree)

@@ -90,11 +90,11 @@ impl Look<'_> {
         Ok(())
     }
 
-    /// A row of answers that never applies.
+    /// A row of answers that never applies, whichever rows stand before it.
     pub fn never_applies(&mut self, answer: &Tree, row: Row) -> Result<(), AllocError> {
         let session = number_at(answer, "session").unwrap_or(0);
         let level = number_at(answer, "level").unwrap_or(0);
-        if session == 1 && level > 0 {
+        if is_never_met(session, level) {
             let text = format!(in self.alloc;
                 "session{row} is 1 beside a level: the row never applies, for session 1 unlocks none"
             )?;
@@ -102,6 +102,11 @@ impl Look<'_> {
         }
         Ok(())
     }
+}
+
+/// Whether a row of answers is for session 1 and needs a level, which session 1 never unlocks.
+pub fn is_never_met(session: u32, level: u32) -> bool {
+    session == 1 && level > 0
 }
 
 fn is_obd_request(id: u32) -> bool {

@@ -41,15 +41,21 @@ fn is_template_item(pair: &[u8]) -> bool {
     }
 }
 
-/// How many items a pattern's text has, where it is one.
-pub fn pattern_items(value: &Value) -> Option<usize> {
+/// The items of a pattern's text, of two characters each, and whether more bytes may come behind them, where it is one.
+pub fn pattern_parts(value: &Value) -> Option<(&[u8], bool)> {
     let text = text(value);
-    let items = match text {
-        [items @ .., b'*'] if text.len() % 2 == 1 => items,
-        _ => text,
+    let (items, more) = match text {
+        [items @ .., b'*'] if text.len() % 2 == 1 => (items, true),
+        _ => (text, false),
     };
     let is_pattern = !items.is_empty() && items.chunks(2).all(is_pattern_item);
-    is_pattern.then_some(items.len() / 2)
+    is_pattern.then_some((items, more))
+}
+
+/// How many items a pattern's text has, where it is one.
+pub fn pattern_items(value: &Value) -> Option<usize> {
+    let (items, _) = pattern_parts(value)?;
+    Some(items.len() / 2)
 }
 
 /// Whether a value is a pattern.
