@@ -96,14 +96,20 @@ def words() -> None:
     cases = {it.get("name"): it for it in root.iter("testcase")}
     texts = {name: it.find("failure").text for name, it in cases.items() if it.find("failure") is not None}
     for name, text in {
-        "line 3: 1003 DiagnosticSessionControl extendedDiagnosticSession": "line 3: the unit sent B nothing, expected 7F1021",
-        "line 7: unasked 7E00": "line 7: the unit sent B 7E00, expected nothing",
-        "line 9: 2301 ReadMemoryByAddress": "line 9: the unit sent A 63AA12, expected 63??11",
-        "line 13: 3E80 TesterPresent zeroSubFunction, functional": "line 13: the unit sent B 7E00, expected nothing",
+        "1003 DiagnosticSessionControl extendedDiagnosticSession": "line 3: the unit sent B nothing, expected 7F1021",
+        "unasked 7E00": "line 7: the unit sent B 7E00, expected nothing",
+        "2301 ReadMemoryByAddress": "line 9: the unit sent A 63AA12, expected 63??11",
+        "3E80 TesterPresent zeroSubFunction, functional": "line 13: the unit sent B 7E00, expected nothing",
     }.items():
         told(texts.get(name) == text, f"the words of {name}", texts)
-    seconds = cases["line 1: 1003 DiagnosticSessionControl extendedDiagnosticSession"].get("time")
+    seconds = next(it.get("time") for it in root.iter("testcase") if it.get("classname") == "A")
     told(seconds == "0.012", "the time of an exchange", seconds)
+    again = "".join(f"{number} {AGREES.split(' ', 1)[1]}" for number in (1, 2, 5)) + UNASKED.replace(" B ", " A ") + AGREES.replace(" A ", " B ")
+    root = ElementTree.fromstring(report(again + "A 4 exchanges, 1 differ\nB 1 exchanges, 0 differ\n")[0])
+    names = [(it.get("classname"), it.get("name")) for it in root.iter("testcase")]
+    first = "1003 DiagnosticSessionControl extendedDiagnosticSession"
+    wanted = [("A", first), ("A", f"{first} (2)"), ("A", f"{first} (3)"), ("A", "unasked 7E00"), ("B", first)]
+    told(names == wanted, "the names of what comes again", names)
 
 
 def of_program() -> None:

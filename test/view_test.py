@@ -388,9 +388,9 @@ def beside(room):
 def parted(_):
     """Messages of service 19 are parted by their sub-function, also those that a row of answers brings."""
     for journal, want in [
-        ("190405620001 59040562002F0102F40C0B54", "19 04 056200 01 ReadDTCInformation -> 59 04 056200 2F 01 02F40C0B54"),
-        ("1906056200FF 59060562002F01020304", "19 06 056200 FF ReadDTCInformation -> 59 06 056200 2F 01 020304"),
-        ("1906056200FF 5906056200", "19 06 056200 FF ReadDTCInformation -> 59 06 056200"),
+        ("190405620001 59040562002F0102F40C0B54", "19 04 056200 01 ReadDTCInformation reportDTCSnapshotRecordByDTCNumber -> 59 04 056200 2F 01 02F40C0B54"),
+        ("1906056200FF 59060562002F01020304", "19 06 056200 FF ReadDTCInformation reportDTCExtDataRecordByDTCNumber -> 59 06 056200 2F 01 020304"),
+        ("1906056200FF 5906056200", "19 06 056200 FF ReadDTCInformation reportDTCExtDataRecordByDTCNumber -> 59 06 056200"),
         ("19022F 5902FF0562002FC1000004", "19 02 2F ReadDTCInformation reportDTCByStatusMask -> 59 02 FF 056200 2F C10000 04"),
         ("19420033FF08 59420033FF", "19 42 0033FF08 ReadDTCInformation -> 59 42 0033FF"),
         ("19 -", "19 ReadDTCInformation -> no reply (by its row)"),

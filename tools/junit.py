@@ -6,8 +6,10 @@ the difference as the failure's text. It reads standard input and writes standar
 
 The status is the one that the text tells: 0 where nothing differs, 8 where something does, 9 where nothing was compared,
 3 where the testers' lines are missing, for then the run ended by a fault. With 9 and 3 the report has an error, so it isn't
-green either. An exchange that is ignored is a test case that was skipped. The status is 7 where the report couldn't be
-written, and 1 where a word stands behind the tool's name. No part of what is proved."""
+green either. The status is 7 where the report couldn't be written, and 1 where a word stands behind the tool's name.
+
+An exchange that is ignored is a test case that was skipped. A test case is called as its request, the second of the same
+` (2)` behind it, so a build server follows it from one recording of a sequence to the next. No part of what is proved."""
 import os
 import signal
 import sys
@@ -46,12 +48,21 @@ def digits(data: Optional[bytes]) -> str:
     return "nothing" if data is None else data.hex().upper()
 
 
-def case_name(it: Compared) -> str:
-    """The name of an exchange's test case: its line, and the request, with its service in words."""
+def case_words(it: Compared) -> str:
+    """What an exchange's test case is called: the request, with its service in words."""
     if it.request is None:
-        return f"line {it.line}: unasked {shortened(digits(it.sent))}"
+        return f"unasked {shortened(digits(it.sent))}"
     words = f"{shortened(digits(it.request))} {uds_words.service_words(it.request)}"
-    return f"line {it.line}: {words}{', functional' if it.kind == 'F' else ''}"
+    return f"{words}{', functional' if it.kind == 'F' else ''}"
+
+
+def named(own: list[Compared]) -> Iterable[tuple[str, Compared]]:
+    """A tester's exchanges with the names of their test cases, where a name that came before has its number behind it."""
+    count: dict[str, int] = {}
+    for it in own:
+        words = case_words(it)
+        count[words] = count.get(words, 0) + 1
+        yield (words if count[words] == 1 else f"{words} ({count[words]})"), it
 
 
 def message(it: Compared) -> str:
@@ -74,8 +85,8 @@ def outcome(it: Compared) -> Lines:
     return element("failure", {"type": "difference", "message": message(it)}, text=difference(it)) if it.differs() else []
 
 
-def case_of(it: Compared) -> Lines:
-    attributes = {"classname": it.name, "name": case_name(it), "time": f"{(it.wait or 0) / 1000:.3f}"}
+def case_of(name: str, it: Compared) -> Lines:
+    attributes = {"classname": it.name, "name": name, "time": f"{(it.wait or 0) / 1000:.3f}"}
     return element("testcase", attributes, outcome(it))
 
 
@@ -88,7 +99,7 @@ def suite(name: str, cases: list[Lines], counted: dict) -> Lines:
 def suite_of(name: str, report: Report) -> Lines:
     own = [it for it in report.exchanges if it.name == name]
     counted = {"failures": sum(it.differs() for it in own), "errors": 0, "skipped": sum(it.is_ignored() for it in own)}
-    return suite(name, [case_of(it) for it in own], counted)
+    return suite(name, [case_of(words, it) for words, it in named(own)], counted)
 
 
 def errors_of(report: Report) -> list[str]:

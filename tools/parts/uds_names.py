@@ -52,6 +52,21 @@ OTHERS = {
     0x86: "ResponseOnEvent",
     0x87: "LinkControl",
 }
+# sub-functions that a tester may ask for and the unit hasn't, by their services
+OTHER_SUBS = {
+    0x11: {4: "enableRapidPowerShutDown", 5: "disableRapidPowerShutDown"},
+    0x19: {
+        3: "reportDTCSnapshotIdentification",
+        4: "reportDTCSnapshotRecordByDTCNumber",
+        6: "reportDTCExtDataRecordByDTCNumber",
+        7: "reportNumberOfDTCBySeverityMaskRecord",
+        8: "reportDTCBySeverityMaskRecord",
+        9: "reportSeverityInformationOfDTC",
+        0x14: "reportDTCFaultDetectionCounter",
+        0x15: "reportDTCWithPermanentStatus",
+    },
+    0x28: {0: "enableRxAndTx", 1: "enableRxAndDisableTx", 2: "disableRxAndEnableTx", 3: "disableRxAndTx"},
+}
 # the identifiers that ISO 14229-1:2013 gives a name to (annex C.1)
 IDENTIFIERS = {
     0xF180: "bootSoftwareIdentification",
@@ -111,7 +126,8 @@ def service_name(sid):
 
 def sub_name(sid, sub):
     """The name of a sub-function, without its bit 7; empty where it has none."""
-    return SERVICES[sid].subs.get(sub & 0x7F, "") if sid in SERVICES else ""
+    own = SERVICES[sid].subs if sid in SERVICES else {}
+    return {**OTHER_SUBS.get(sid, {}), **own}.get(sub & 0x7F, "")
 
 
 def negative_name(code):
@@ -131,6 +147,8 @@ def table():
     rows = ["| Service | Name | Sub-functions |", "|---|---|---|"]
     rows += [f"| {sid:02X} | {it.name} | {subs_in_words(sid, it.subs)} |" for sid, it in SERVICES.items()]
     rows += ["", f"Not in the unit: {', '.join(f'{sid:02X} {name}' for sid, name in OTHERS.items())}."]
+    others = (f"{sid:02X} {sub:02X} {name}" for sid, subs in OTHER_SUBS.items() for sub, name in subs.items())
+    rows += ["", f"Sub-functions not in the unit: {', '.join(others)}."]
     rows += ["", "| NRC | Name |", "|---|---|"]
     rows += [f"| 0x{code:02X} | {name} |" for code, name in NEGATIVE.items()]
     return "".join(f"{it}\n" for it in rows)
