@@ -694,6 +694,12 @@ class OfRecordings(unittest.TestCase):
         found = learned_of(frames((0, "7E0#023E00"), (5, "7E8#027E00"), (9, "7E8#025003")))
         self.assertEqual((8, "learn: line 3: tester_7E0 was sent 5003 which nobody asked for\n"), (found.status, found.told))
 
+    def test_a_pair_the_other_way_round_is_told(self) -> None:
+        lines = frames((0, "7E0#023E00"), (5, "7E8#027E00"))
+        told = "learn: --pair 7E8:7E0: the recording asks by 7E0 and answers by 7E8; are they exchanged?\n"
+        self.assertTrue(learned_of(lines, "--pair", "7E8:7E0").told.startswith(told))
+        self.assertEqual((0, ""), (learned_of(lines, "--pair", "7E0:7E8").status, learned_of(lines, "--pair", "7E0:7E8").told))
+
     def test_a_value_that_depends_on_a_write_elsewhere(self) -> None:
         """It comes and goes as another identifier is written: more often than a row has templates."""
         if OPTIONS[1:] != [learn.PROGRAM]:

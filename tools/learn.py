@@ -8,8 +8,9 @@ Example:
     tools/learn.py --pair 7E0:7E8=workshop --pair 7A0:7A8=end_of_line demo/other_unit.log > unit.toml
 
 CAPTURE is a recording of `candump -L`, or, where python-can is installed, one of ASC, BLF, TRC, CSV or MF4. The testers are
-the pairs that are given, or those that are found. With `--interface` the frames of one interface count. With `--varies` an identifier that was read with different values, and
-seeds that differ, aren't compared; without it their values come one after the other, round and round.
+the pairs that are given, or those that are found. With `--interface` the frames of one interface count. With `--varies` an
+identifier that was read with different values, and seeds that differ, aren't compared; without it their values come one
+after the other, round and round.
 
 The judge is `compare` of the program that ./uds_play starts: a setup is made, compared with the recording, and what differs
 becomes rows of answers, until nothing differs or nothing gets better. The status is 0 where nothing differs; 8 where
@@ -122,9 +123,18 @@ def named(pairs: Iterable[Pair]) -> list[Pair]:
     return [it if it.name else replace(it, name=f"tester_{it.request:X}") for it in pairs]
 
 
+def other_way(pair: Pair) -> tuple[str, str]:
+    """A pair's identifiers as lines have them, exchanged."""
+    request, response = pair.texts()
+    return response, request
+
+
 def testers_of(given: list[Pair], found: list[Pair]) -> list[Pair]:
     """The pairs that can be learned, of those given or else of those found; tells of the others."""
     own = given or found
+    for it in given:
+        if other_way(it) in map(Pair.texts, found):
+            say(f"--pair {it.shown()}: the recording asks by {it.texts()[1]} and answers by {it.texts()[0]}; are they exchanged?")
     for it in own[MOST_TESTERS:]:
         say(f"the pair {it.shown()} is one too many: a setup has {MOST_TESTERS} testers")
     if len(own) > 1 and not given:
