@@ -108,20 +108,6 @@ class BusTests(unittest.TestCase):
             heard = self.near.recv(2)
         self.assertEqual((heard.arbitration_id, heard.is_extended_id), (0x18DAF110, True))
 
-    def test_fd(self) -> None:
-        from uds_unit.bus import UnitBus
-
-        # a unit whose testers are classic passes frames of CAN FD over
-        self.ask("021003", is_fd=True)
-        self.ask("023E00")
-        self.assertEqual(self.hear(), "7E8#027E00CCCCCCCCCC")
-        self.unit.stop()
-        with UnitBus(self.far, SETUP.read_bytes().replace(b"response = 0x7E8", b"response = 0x7E8\nfd = true\nfunctional = 0x7D0")):
-            self.ask("0322F190", is_fd=True)
-            heard = self.near.recv(2)
-        self.assertEqual((heard.is_fd, heard.bitrate_switch, heard.error_state_indicator), (True, True, False))
-        self.assertEqual((heard.arbitration_id, heard.data.hex()), (0x7E8, "001462f190" + 17 * "30" + "cccc"))
-
     def test_others_frames(self) -> None:
         self.near.send(self.Message(arbitration_id=0x18DA00F1, data=b"\x02\x10\x03", is_extended_id=True))
         self.near.send(self.Message(arbitration_id=0x7E0, is_extended_id=False, is_remote_frame=True, dlc=3))

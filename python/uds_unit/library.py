@@ -20,14 +20,7 @@ class Handle(Structure):
 class Reply(Structure):
     """A frame that is due."""
 
-    _fields_ = [
-        ("at_us", c_uint64),
-        ("id", c_uint32),
-        ("tester", c_uint8),
-        ("len", c_uint8),
-        ("fd", c_uint8),
-        ("bytes", c_uint8 * 64),
-    ]
+    _fields_ = [("at_us", c_uint64), ("id", c_uint32), ("tester", c_uint8), ("len", c_uint8), ("bytes", c_uint8 * 8)]
 
 
 class State(Structure):

@@ -25,13 +25,11 @@ class Frame(NamedTuple):
     id: int
     """Its identifier."""
     data: bytes
-    """Its bytes, up to 8, to a tester that talks by CAN FD up to 64."""
+    """Its bytes, 0 to 8."""
     tester: str
     """The name of the tester that it is for."""
     extended: bool = False
     """Whether its identifier has 29 bits."""
-    fd: bool = False
-    """Whether it is a frame of CAN FD, as all are to a tester with `fd = true`."""
 
 
 def _microseconds(time: float) -> int:
@@ -71,10 +69,6 @@ class Unit:
         tree = toml.loads(config.decode().removeprefix("\ufeff"))
         self.testers: tuple[str, ...] = tuple(tester["name"] for tester in tree["tester"])
         """The testers' names, in the order of the setup."""
-        self.has_fd: bool = any(tester.get("fd", False) for tester in tree["tester"])
-        """Whether any of them talks by CAN FD."""
-        self.fd_flags: int = tree.get("fd_flags", 1)
-        """The flags of the frames of CAN FD that the unit sends: 1 is bit rate switch, 2 error state indicator."""
         self.codes: Codes = Codes(self)
         """The DTCs: a mapping from code to status."""
         self.values: Values = Values(self)
@@ -96,16 +90,14 @@ class Unit:
 
     def frame(self, time: float, id: int, data: bytes, *, extended: bool = False) -> list[Frame]:
         """Takes a frame of the bus at a moment in seconds, and returns the frames that are due up to then, in the bus's order.
-        An earlier moment is taken as the latest so far. `id` has 11 bits, or with `extended` 29 bits. The frame has 0 to 8, 12,
-        16, 20, 24, 32, 48 or 64 bytes; one of more than 8 is of CAN FD, and only lets the time pass unless it is for a tester with
-        `fd = true`. A shorter one is taken whichever kind it is of.
+        An earlier moment is taken as the latest so far. `id` has 11 bits, or with `extended` 29 bits.
 
-        Raises FrameFault where no frame has this identifier, or so many bytes; then nothing was taken.
+        Raises FrameFault where it is no frame of classic CAN; then nothing was taken.
         """
         if extended:
             id |= EXTENDED
         if not 0 <= id <= 0xFFFFFFFF:
-            raise FrameFault("no frame of CAN")
+            raise FrameFault("no frame of classic CAN")
         status = self._frame(self._at, _microseconds(time), id, bytes(data), len(data))
         if status != DONE:
             self._raise(status)
@@ -159,8 +151,7 @@ class Unit:
         reply, take = self._reply, self._next
         while take(self._at, self._reply_at) == DONE:
             data, id = bytes(reply.bytes)[: reply.len], reply.id
-            tester = self.testers[reply.tester - 1]
-            frames.append(Frame(reply.at_us / MICRO, id & LOW_29, data, tester, id >= EXTENDED, reply.fd == 1))
+            frames.append(Frame(reply.at_us / MICRO, id & LOW_29, data, self.testers[reply.tester - 1], id >= EXTENDED))
         return frames
 
     def _check(self, status: int) -> None:
@@ -172,7 +163,7 @@ class Unit:
         if status == CLOSED:
             raise ClosedFault("the unit is closed")
         if status == NO_FRAME:
-            raise FrameFault("no frame of CAN")
+            raise FrameFault("no frame of classic CAN")
         raise MemoryFault("memory")
 
 

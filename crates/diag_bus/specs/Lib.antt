@@ -1,7 +1,6 @@
 pub mod Bus
 pub mod Clock
 pub mod Comparing
-pub mod Drawn
 pub mod Events
 pub mod Filled
 pub mod Journal

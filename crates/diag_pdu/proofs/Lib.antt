@@ -1,4 +1,2 @@
 pub mod Lists
-pub mod Lengths
 pub mod CutFrames
-pub mod Classic

@@ -14,14 +14,8 @@ use Rattle.diag_setup.specs.declared.raw.TemplateItem.{TemplateItem}
 use Rattle.diag_setup.specs.declared.raw.TemplateItem.TheVariants as template
 
 abbrev pub tester : List ℕ → ℕ → ℕ → RawTester
-tester name request response = record {
-  name = name;
-  request = request;
-  response = response;
-  extended = false;
-  functional = None;
-  fd = false;
-}
+tester name request response =
+    record { name = name; request = request; response = response; extended = false; functional = None }
 
 abbrev pub did : RawDid
 did = record {
@@ -69,8 +63,6 @@ two_testers = record {
   max_request = 4095;
   pad = true;
   pad_byte = 0xCC;
-  tx_dl = 64;
-  fd_flags = 1;
   availability = 0xFF;
   functional = 0x7DF;
   attempts = 3;

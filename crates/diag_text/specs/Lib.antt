@@ -4,4 +4,3 @@ pub mod Devices
 pub mod Faults
 pub mod Taking
 pub mod Text
-pub mod Part

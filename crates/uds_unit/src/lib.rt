@@ -6,7 +6,6 @@ mod device;
 mod entries;
 mod exports;
 mod frames;
-mod given;
 mod handle;
 mod laws;
 mod loose;

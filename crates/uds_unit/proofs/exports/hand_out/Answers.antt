@@ -1,7 +1,4 @@
 use Rattle.std.proofs.Common.{ap, ◌∙◌}
-use Rattle.diag_setup.specs.Setup.{is_fd_of}
-use Rattle.diag_setup.specs.declared.raw.RawSetup.{RawSetup}
-use Rattle.uds_unit.specs.Calls.{told_fd}
 use Rattle.uds_unit.specs.Moments.{moment_us}
 use Rattle.uds_unit.proofs.exports.hand_out.Goals as goal
 
@@ -13,6 +10,5 @@ returns-in-Some-clause-handed c = λ is. record {
   id = c.put.ensures.id;
   tester = c.put.ensures.tester;
   len = c.put.ensures.len;
-  fd = c.put.ensures.fd ∙ ap told_fd (c.is_fd-fd.ensures ∙ ap (λ (s : RawSetup). is_fd_of s c.in-Some.drawn.who) c.in-Some.ensures.same.setup);
   bytes = c.put.ensures.bytes;
 }
