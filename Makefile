@@ -17,8 +17,8 @@ install:
 	@set -e; files=$$(tools/release.sh --files); set -- $$files; \
 	version=$$("$$1" --version | awk '{ print $$NF }'); \
 	install -D -m 755 "$$1" '$(ROOT)/bin/uds_play'; \
-	install -D -m 644 "$$2" '$(ROOT)/lib/libuds_unit.so.1'; \
-	ln -sf libuds_unit.so.1 '$(ROOT)/lib/libuds_unit.so'; \
+	install -D -m 644 "$$2" '$(ROOT)/lib/libuds_unit.so.2'; \
+	ln -sf libuds_unit.so.2 '$(ROOT)/lib/libuds_unit.so'; \
 	install -D -m 644 include/uds_unit.h '$(ROOT)/include/uds_unit.h'; \
 	install -d '$(ROOT)/lib/pkgconfig'; \
 	sed -e 's|@PREFIX@|$(PCPREFIX)|' -e "s|@VERSION@|$$version|" include/uds_unit.pc.in > '$(ROOT)/lib/pkgconfig/uds_unit.pc'; \
@@ -31,7 +31,7 @@ install:
 	@echo 'installed under $(ROOT)'
 
 uninstall:
-	rm -f '$(ROOT)/bin/uds_play' '$(ROOT)/lib/libuds_unit.so.1' '$(ROOT)/lib/libuds_unit.so' '$(ROOT)/include/uds_unit.h'
+	rm -f '$(ROOT)/bin/uds_play' '$(ROOT)/lib/libuds_unit.so.2' '$(ROOT)/lib/libuds_unit.so' '$(ROOT)/include/uds_unit.h'
 	rm -f '$(ROOT)/lib/pkgconfig/uds_unit.pc' '$(ROOT)/share/man/man1/uds_play.1' '$(ROOT)/share/bash-completion/completions/uds_play'
 	rm -rf '$(PACKAGE)'
 

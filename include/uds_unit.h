@@ -1,5 +1,6 @@
-/* uds_unit: a diagnostic server (UDS, ISO 14229-1:2013, over ISO-TP, ISO 15765-2:2016) on a classic CAN bus, for one to
- * eight testers, written and proved in Rattle. A unit takes frames with their moments, and hands out those that it sends.
+/* uds_unit: a diagnostic server (UDS, ISO 14229-1:2013, over ISO-TP, ISO 15765-2:2016) on a bus of classic CAN or CAN FD,
+ * for one to eight testers, written and proved in Rattle. A unit takes frames with their moments, and hands out those that
+ * it sends.
  *
  * No call starts a thread, waits or reads a clock: time is what the caller says. Each call returns, and answers a status.
  * The more time a call lets pass the longer it takes: some milliseconds for a year.
@@ -32,7 +33,7 @@ enum uds_status {
     UDS_MEMORY = 4,    /* there is no memory, or 2^40 replies wait. After it nothing is said of what the unit took: close it */
     UDS_CLOSED = 16,   /* the unit isn't open */
     UDS_NONE = 17,     /* there is none */
-    UDS_NO_FRAME = 18, /* no frame of classic CAN has this identifier, or so many bytes */
+    UDS_NO_FRAME = 18, /* no frame has this identifier, or so many bytes */
     UDS_UNKNOWN = 19,  /* there is no such identifier or code */
     UDS_LENGTH = 20,   /* the value has another length */
     UDS_ROOM = 21      /* there is too little room */
@@ -50,11 +51,12 @@ struct uds_unit {
 
 /* A frame that is due. */
 struct uds_reply {
-    uint64_t at_us;   /* when, in microseconds */
-    uint32_t id;      /* its identifier; of one of 29 bits with UDS_29_BITS */
-    uint8_t tester;   /* whom it is for: the tester's place in the setup, from 1 */
-    uint8_t len;      /* how many bytes it has, up to 8 */
-    uint8_t bytes[8]; /* its bytes, and zeros behind them */
+    uint64_t at_us;    /* when, in microseconds */
+    uint32_t id;       /* its identifier; of one of 29 bits with UDS_29_BITS */
+    uint8_t tester;    /* whom it is for: the tester's place in the setup, from 1 */
+    uint8_t len;       /* how many bytes it has, up to 64; to a classic tester up to 8 */
+    uint8_t fd;        /* 1: a frame of CAN FD, as all to a tester with fd = true are; 0: a classic one */
+    uint8_t bytes[64]; /* its bytes, and zeros behind them */
 };
 
 /* The session, and who holds it. */
@@ -77,8 +79,10 @@ uint32_t uds_unit_open(struct uds_unit *unit, const uint8_t *config, size_t len,
 /* The same, and the unit keeps the lines of its journal until uds_unit_journal hands them out. */
 uint32_t uds_unit_open_with_journal(struct uds_unit *unit, const uint8_t *config, size_t len, uint8_t *text, size_t room);
 
-/* Takes a frame of the bus at a moment. Time passes up to it; an earlier moment is taken as the latest so far. A frame that
- * is no tester's only lets the time pass. UDS_NO_FRAME: nothing was taken, no time either. */
+/* Takes a frame of the bus at a moment. Time passes up to it; an earlier moment is taken as the latest so far. It has 0 to 8,
+ * 12, 16, 20, 24, 32, 48 or 64 bytes. Whether one of up to 8 is of classic CAN or of CAN FD isn't asked: it is taken as whoever
+ * has its identifier talks. A longer one is of CAN FD, and taken where a tester with fd = true has its identifier. A frame that
+ * is no tester's, or is too long for its tester, only lets the time pass. UDS_NO_FRAME: nothing was taken, no time either. */
 uint32_t uds_unit_frame(struct uds_unit *unit, uint64_t at_us, uint32_t id, const uint8_t *bytes, size_t len);
 
 /* Lets time pass to a moment, with no frame. */

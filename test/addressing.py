@@ -161,7 +161,7 @@ RECORDING = [
     "18DA11F1#021003", "18DA10F2#30000A", "000007E0#021001", "18DB33F1#023E00", "7DF#023E80", "7E0#023E00", "18DA10F1#R",
     "0CF00400#F07D8700000000FF", "18DB33F1#023E80", "7E0#0322F190", "7E0#300005", "123#", "00000000#00", "1FFFFFFF#0102030405060708",
 ]
-FRAME = re.compile(r"\((\d+)\.(\d{3})\d*\) (\S+) ([0-9A-F]+#[0-9A-F]*)(?: [RT])?")
+FRAME = re.compile(r"\((\d+)\.(\d{3})\d*\) (\S+) ([0-9A-F]+#(?:#[0-9A-F])?[0-9A-F]*)(?: [RT])?")
 # the forms that python-can writes and reads, by their suffixes
 FORMS = ("blf", "asc", "trc", "csv")
 
@@ -205,25 +205,39 @@ def by_python_can(path: str, room: str, form: str) -> str:
     return f"{room}/can.log"
 
 
-def recorded(room: str) -> tuple[str, str, str]:
-    """The paths of a setup, of the recording, and of what the program writes of it."""
-    config = put(f"{room}/setup", SETUP.encode())
-    lines = "".join(f"(17638000{at // 100:02d}.{at % 100:02d}0250) can0 {frame}\n" for at, frame in enumerate(RECORDING, 95))
-    path = put(f"{room}/bus.log", lines.encode())
-    return config, path, put(f"{room}/replies.log", run(["bus", config, path])[1])
+@dataclass(frozen=True)
+class Bus:
+    """A setup, the frames of a recording, and how many the program writes of it."""
+
+    setup: str
+    frames: list[str]
+    answers: int
+
+    def names(self) -> list[str]:
+        return re.findall('name = "(.*)"', self.setup)
+
+    def recorded(self, room: str) -> tuple[str, str, str]:
+        """The paths of the setup, of the recording, and of what the program writes of it."""
+        config = put(f"{room}/setup", self.setup.encode())
+        lines = "".join(f"(17638000{at // 100:02d}.{at % 100:02d}0250) can0 {frame}\n" for at, frame in enumerate(self.frames, 95))
+        path = put(f"{room}/bus.log", lines.encode())
+        return config, path, put(f"{room}/replies.log", run(["bus", config, path])[1])
 
 
-def through(room: str, name: str, convert) -> None:
+BUS = Bus(SETUP, RECORDING, 14)
+
+
+def through(tell: Tally, bus: Bus, room: str, name: str, convert) -> None:
     """The recording and what the program writes of it come back from another form as they went, and the program writes of
     what came back what it writes of the recording. `convert` has the path, and the names of the interfaces."""
-    config, path, written = recorded(room)
-    told(len(replies(whole(written))) == 14, f"{name}: there are answers", whole(written))
+    config, path, written = bus.recorded(room)
+    tell(len(replies(whole(written))) == bus.answers, f"{name}: there are answers", whole(written))
     back = whole(convert(path, ["can0"]))
-    told(frames(back) == frames(whole(path)), f"{name}: the recording comes back", back)
+    tell(frames(back) == frames(whole(path)), f"{name}: the recording comes back", back)
     status, out, tells = run(["bus", config, put(f"{room}/back.log", back.encode())])
-    told((status, replies(out.decode()), tells) == (0, replies(whole(written)), b""), f"{name}: it is answered as before", (status, out, tells))
-    back = whole(convert(written, [it.name for it in TESTERS]))
-    told(frames(back) == frames(whole(written)), f"{name}: what the program writes comes back", back)
+    tell((status, replies(out.decode()), tells) == (0, replies(whole(written)), b""), f"{name}: it is answered as before", (status, out, tells))
+    back = whole(convert(written, bus.names()))
+    tell(frames(back) == frames(whole(written)), f"{name}: what the program writes comes back", back)
 
 
 def has_python_can() -> bool:
@@ -239,12 +253,12 @@ def has_python_can() -> bool:
 
 def others(room: str) -> None:
     if shutil.which("log2asc") or packages.install("can-utils", "addressing: can-utils is installed for its recordings"):
-        through(room, "log2asc and asc2log", lambda path, names: by_can_utils(path, room, names))
+        through(told, BUS, room, "log2asc and asc2log", lambda path, names: by_can_utils(path, room, names))
     else:
         print("addressing: can-utils isn't there: its recordings aren't read", flush=True)
     if has_python_can() or (packages.install("python3-can", "addressing: python-can is installed for its recordings") and has_python_can()):
         for form in FORMS:
-            through(room, f"python-can's {form}", lambda path, _, form=form: by_python_can(path, room, form))
+            through(told, BUS, room, f"python-can's {form}", lambda path, _, form=form: by_python_can(path, room, form))
     else:
         print("addressing: python-can isn't there: its recordings aren't read", flush=True)
 
@@ -259,7 +273,7 @@ def by_scapy(room: str) -> None:
         return
     from scapy.layers.can import rdcandump  # pylint: disable=import-outside-toplevel
 
-    written = recorded(room)[2]
+    written = BUS.recorded(room)[2]
     found = [f"{it.identifier:0{8 if it.flags.extended else 3}X}#{bytes(it.data).hex().upper()}" for it in rdcandump(written)]
     told(found == [it[2] for it in replies(whole(written))], "scapy reads what the program writes", found)
 
@@ -270,7 +284,7 @@ def by_wireshark(room: str) -> None:
     if not shutil.which("tshark"):
         print("addressing: tshark (Wireshark) isn't there: it reads nothing", flush=True)
         return
-    _, path, written = recorded(room)
+    _, path, written = BUS.recorded(room)
     kinds = shown(written, "can.id", "can.flags.xtd", "data.data")
     found = [f"{int(number):0{8 if wide == '1' else 3}X}#{data.upper()}" for number, wide, data in kinds]
     told(found == [it[2] for it in replies(whole(written))], "Wireshark reads what the program writes", found)

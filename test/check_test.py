@@ -18,12 +18,12 @@ from harness import PROGRAM, Tally
 
 FAULTS = ("syntax", "missing ", "bad value ", "range", "empty", "duplicate", "unknown code", "unknown level", "too long")
 UNIT = (
-    "p2_ms", "p2_star_10ms", "s3_ms", "n_bs_ms", "n_cr_ms", "block_size", "st_min", "max_request", "pad", "pad_byte", "availability", "functional",
-    "attempts", "delay_ms", "ignore",
+    "p2_ms", "p2_star_10ms", "s3_ms", "n_bs_ms", "n_cr_ms", "block_size", "st_min", "max_request", "pad", "pad_byte", "tx_dl",
+    "fd_flags", "availability", "functional", "attempts", "delay_ms", "ignore",
 )
 ROWS = ("seed", "key")
 LISTS = {
-    "tester": ("name", "request", "response", "extended", "functional"),
+    "tester": ("name", "request", "response", "extended", "functional", "fd"),
     "did": ("id", "value", "read_level", "write", "write_level", "varies"),
     "code": ("code", "status"),
     "routine": ("id", "time_ms", "result", "level", "code", "status"),
@@ -59,7 +59,7 @@ GOOD = {
     "tester": [
         {"name": "A", "request": 0x7E0, "response": 0x7E8},
         {"name": "B", "request": 0x7E1, "response": 0x7E9},
-        {"name": "C", "extended": True, "request": 0x18DA10F1, "response": 0x18DAF110},
+        {"name": "C", "extended": True, "request": 0x18DA10F1, "response": 0x18DAF110, "fd": True},
     ],
     "did": [{"id": 0xF190, "value": "4142", "read_level": 1, "write": True, "write_level": 3, "varies": True}, {"id": 1, "value": "00"}],
     "code": [{"code": 0x012345, "status": 0x2F}, {"code": 5, "status": 0}],
@@ -127,6 +127,7 @@ IGNORED = (
 # the values of a key that isn't a number
 VALUES = {
     **dict.fromkeys(("name", "value", "seed", "key", "result"), TEXTS), "request": PATTERNS, "reply": REPLIES, "ignore": IGNORED,
+    "tx_dl": (*range(66), 96, 128, 255, 256, 4294967295), "fd_flags": (*range(18), 31, 255, 256, 4294967295),
 }
 # several keys that are well or not by each other
 TOGETHER = {
@@ -153,6 +154,14 @@ TOGETHER = {
     "a tester's own functional identifier, another's request": [(1, "functional", 0x7E1)],
     "the shared one that nobody has": [(0, "functional", 0x7E0), (1, "functional", 0x700), (2, "functional", 0x700)],
     "a request of 29 bits without saying so": [(1, "request", 0x18DA11F1)],
+    "a functional identifier of CAN FD and a classic tester's": [(1, "fd", True)],
+    "the same of the second tester": [(2, "fd", True)],
+    "of testers of CAN FD alone": [(1, "fd", True), (2, "fd", True)],
+    "of their own": [(1, "fd", True), (1, "functional", 0x701), (2, "functional", 0x701)],
+    "of one's own": [(1, "fd", True), (1, "functional", 0x701)],
+    "of 29 bits": [(2, "extended", True), (2, "request", 0x18DA11F1), (2, "response", 0x18DAF111)],
+    "of 29 bits, one's own": [(2, "extended", True), (2, "request", 0x18DA11F1), (2, "response", 0x18DAF111), (2, "functional", 0x7DF)],
+    "a bad length beside a range": [(0, "tx_dl", 9), (0, "fd_flags", "1"), (0, "p2_ms", 65536)],
     "a bad pattern to ignore and a key that isn't there": [(0, "ignore", ["2G"]), (1, "name", None)],
     "the most templates": [(0, "answer", [{"request": "00", "reply": [""] * 4096}] * 16)],
     "one more": [(0, "answer", [{"request": "00", "reply": [""] * 4096}] * 16 + [{"request": "00", "reply": [""]}])],

@@ -1,9 +1,9 @@
 #!/usr/bin/env python3
 """Runs `compare` of the built program over recordings that are made here, beside the slow reading of
 test/uds_exchanges.py: the worked examples, units that answer well, that drop, repeat, delay, spoil or exchange their
-answers, response pending, TesterPresent in between, messages that are cut off, traffic of others, several testers; faults
-of a capture, pieces as they come, and a long recording. The recordings are the same each time. The last line is 'N
-passed, M failed'.
+answers, response pending, TesterPresent in between, messages that are cut off, traffic of others, several testers, classic or
+by CAN FD; faults of a capture, pieces as they come, and a long recording. The recordings are the same each time. The last
+line is 'N passed, M failed'.
 Usage: test/compare.py [--reading] [--long LINES] [RUNS [FIRST]]
   --reading      the slow reading alone, on the worked examples: no `compare` of the program is run
   --long LINES   so many lines of the long recording (default 1000000)
@@ -20,6 +20,7 @@ from dataclasses import dataclass, field
 from harness import PROGRAM, Tally
 from bus import LONG, MOST_MEMORY, SETUP, THIRD, WRONG, Live, long_lines, peak_of, pieces, put, run, stamped, text_of
 from uds_exchanges import compared, read, read_setup, written_of
+from uds_link import LENGTHS
 
 # the testers, and the identifiers that they and the unit send with
 TESTERS = {"A": ("7E0", "7E8"), "B": ("7E1", "7E9"), "C": ("7E2", "7EA")}
@@ -316,6 +317,11 @@ def asked(chance: random.Random, testers: int, count: int) -> list[tuple[int, st
     return sorted(found, key=lambda it: it[0])
 
 
+def parted(line: str) -> tuple[str, str]:
+    """A line up to its frame's mark, and the frame's digits."""
+    return re.fullmatch("(.*?#(?:#.)?)(.*)", line).groups()
+
+
 def millisecond(line: str) -> str:
     """A line's stamp in whole milliseconds: that of an answer has no more, and in one the answer is behind its request."""
     return line[1:15]
@@ -335,15 +341,17 @@ class Recording:
         """The places of the unit's frames."""
         return [at for at, it in enumerate(self.lines) if re.search(r" 7E[89A]#", it)]
 
-    def spoil(self, times: int) -> None:
-        """Does so many odd things to the lines."""
-        ways = [
+    def ways(self) -> list:
+        return [
             self.drop, self.repeat, self.delay, self.spoil_byte, self.spoil_rest, self.exchange, self.wait, self.between,
             self.unasked, self.other, self.shuffle, self.lower,
         ]
+
+    def spoil(self, times: int) -> None:
+        """Does so many odd things to the lines."""
         for _ in range(times):
             places = self.answers()
-            self.chance.choice(ways)(self.chance.choice(places) if places else 0)
+            self.chance.choice(self.ways())(self.chance.choice(places) if places else 0)
         if times and self.chance.random() < 0.15:
             self.pause(self.chance.choice([59_999, 60_000, 60_001]))
 
@@ -359,17 +367,17 @@ class Recording:
         self.lines.insert(min(len(self.lines), at + self.chance.randint(1, 12)), line)
 
     def spoil_byte(self, at: int) -> None:
-        head, _, data = self.lines[at].partition("#")
+        head, data = parted(self.lines[at])
         if data:
             it = 2 * self.chance.randrange(len(data) // 2)
             data = f"{data[:it]}{int(data[it:it + 2], 16) ^ (1 << self.chance.randrange(8)):02X}{data[it + 2:]}"
-        self.lines[at] = f"{head}#{data}"
+        self.lines[at] = f"{head}{data}"
 
     def spoil_rest(self, at: int) -> None:
         """The frame's last bytes are others: of a value or a seed, often."""
-        head, _, data = self.lines[at].partition("#")
+        head, data = parted(self.lines[at])
         more = data[: 2 * self.chance.randint(0, 7)]
-        self.lines[at] = f"{head}#{more}{self.chance.randbytes((len(data) - len(more)) // 2).hex().upper()}"
+        self.lines[at] = f"{head}{more}{self.chance.randbytes((len(data) - len(more)) // 2).hex().upper()}"
 
     def exchange(self, at: int) -> None:
         """Two answers change their places."""
@@ -378,7 +386,7 @@ class Recording:
 
     def wait(self, at: int) -> None:
         """Response pending before it."""
-        found = re.search(r" (7E[89A])#(?:0.|1...)(7F)?(..)", self.lines[at])
+        found = re.search(r" (7E[89A])#(?:#.)?(?:00..|0.|1...)(7F)?(..)", self.lines[at])
         own, service = (found[1], found[3]) if found and found[2] else ("7E8", "22")
         if found and not found[2]:
             own, service = found[1], f"{int(found[3], 16) & 0xBF:02X}"
@@ -412,7 +420,7 @@ class Recording:
 
     def pause(self, ms: int) -> None:
         """From some line on all is so much later: within one of the last messages of several frames, where there is one."""
-        parts = [at for at in self.answers() if "#2" in self.lines[at]] or [len(self.lines)]
+        parts = [at for at in self.answers() if parted(self.lines[at])[1][:1] == "2"] or [len(self.lines)]
         at = self.chance.choice(parts[-3:])
         self.lines[at:] = [later(it, ms) if it.startswith("(") else it for it in self.lines[at:]]
 
@@ -430,6 +438,44 @@ class Recording:
     def stamp(self, at: int) -> str:
         near = [it for it in self.lines[max(0, at - 3) : at + 1] if it.startswith("(")]
         return near[-1].split(" ")[0] if near else "(0000000005.000000)"
+
+
+class FdRecording(Recording):
+    """The same of testers that talk by CAN FD."""
+
+    def ways(self) -> list:
+        return [*super().ways(), self.resize, self.resize, self.fd_unasked]
+
+    def sized(self, digits: str) -> str:
+        """The digits, cut or filled to a length of CAN FD."""
+        return (digits + "C5" * 64)[: 2 * self.chance.choice([*range(8), *LENGTHS, *LENGTHS])]
+
+    def resize(self, at: int) -> None:
+        head, data = parted(self.lines[at])
+        if "##" in head:
+            self.lines[at] = f"{head}{self.sized(data)}"
+
+    def fd_unasked(self, at: int) -> None:
+        """A frame of CAN FD that nobody asked: a message, the first frame of one, a part, or nothing."""
+        size, sid = self.chance.choice(LENGTHS) + self.chance.choice([-3, -2, -1, 0]), self.chance.choice(["62F190", "7F2231", "7E00", "5902FF"])
+        frame = self.chance.choice([f"00{size:02X}{sid}", f"10{size:02X}{sid}", "21", f"0{size % 8:X}{sid}", "100000001001"])
+        self.lines.insert(at, f"{self.stamp(at)} can0 {self.chance.choice(list(TESTERS.values()))[1]}##0{self.sized(frame)}")
+
+
+def by_fd(chance: random.Random, frames: list[tuple[int, str]]) -> list[tuple[int, str]]:
+    """Most of the frames as such of CAN FD."""
+    return [(ms, it if chance.random() < 0.2 else it.replace("#", "##1")) for ms, it in frames]
+
+
+def fd_recording(chance: random.Random, room: str, testers: int, count: int, times: int) -> tuple[str, list[str]]:
+    """A setup of testers that talk by CAN FD and the lines of a recording, whose unit sends otherwise than the server may."""
+    setup = setup_by(chance).replace("[[tester]]\n", "[[tester]]\nfd = true\n")
+    own, other = (f"tx_dl = {chance.choice(LENGTHS)}\n{setup}" for _ in range(2))
+    it = FdRecording(chance, put(f"{room}/setup", own.encode()), room, by_fd(chance, asked(chance, testers, count)))
+    it.spoil(times)
+    names = [name for name in TESTERS if chance.random() < 0.25]
+    it.widen(names)
+    return widened(other, names), it.lines
 
 
 def recording(chance: random.Random, room: str, testers: int, count: int, times: int) -> tuple[str, list[str]]:
@@ -488,6 +534,17 @@ def by_chance(room: str, runs: int, first: int) -> None:
         had["of 29 bits"] += sum(" 18DAF1" in it for it in lines)
     told(all(it >= runs // 8 for it in had.values()), "the recordings bring enough about", had)
     print(f"compare: {', '.join(f'{it} {name}' for name, it in had.items())}", flush=True)
+
+
+def fd_by_chance(room: str, runs: int, first: int) -> None:
+    frames = answers = 0
+    for seed in range(first, first + runs // 2 + 1):
+        chance = random.Random(9000 + seed)
+        setup, lines = fd_recording(chance, room, chance.choice([1, 1, 2, 3]), chance.choice([20, 60, 100]), chance.choice([0, 1, 3, 10, 25]))
+        _, text = agrees_with(room, setup, lines, f"at random by CAN FD, {seed}")
+        frames += sum("##" in it and len(parted(it)[1]) > 16 for it in lines)
+        answers += len(re.findall(" [0-9A-F]{16,} = ", text))
+    told(min(frames, answers) > runs // 8, f"by CAN FD: {frames} frames of more than 8 bytes, {answers} long answers that agree")
 
 
 def well_behaved(room: str, runs: int, first: int) -> None:
@@ -595,6 +652,7 @@ def main() -> int:
         worked(room, given.reading)
         if not given.reading:
             by_chance(room, given.runs, given.first)
+            fd_by_chance(room, given.runs, given.first)
             well_behaved(room, given.runs, given.first)
             faults(room)
             in_pieces(room)

@@ -28,8 +28,8 @@ from learn_judge import Exchange
 from learn_model import Held, one_round, s3_of
 from learn_rows import Case, pattern_of, shortened, template_of
 from learn_setup import between, code_name
+from uds_link import LENGTHS, cut
 from uds_link import Setup as LinkSetup
-from uds_link import cut
 
 LONG = 1_000_000
 MOST_SECONDS = 20
@@ -323,7 +323,8 @@ WITH_SUB = (0x10, 0x11, 0x19, 0x28, 0x31, 0x3E, 0x85)
 
 @dataclass
 class Bus:
-    """A bus that is recorded: the frames with their moments in milliseconds."""
+    """A bus that is recorded: the frames with their moments in milliseconds, of CAN FD with at most `tx_dl` bytes, classic ones
+    where that is 0."""
 
     chance: random.Random
     pad: Optional[int]
@@ -332,16 +333,19 @@ class Bus:
     ms: int = 1_000_000
     numbers: list = field(default_factory=lambda: [(0x7E0, 0x7E8), (0x7E1, 0x7E9)])
     everyone: int = 0x7DF
+    tx_dl: int = 0
 
-    def link(self) -> LinkSetup:
-        return LinkSetup([], 0x7DF, 0, 0, 65535, self.pad, 1000, 1000, None)
+    def cut(self, message: bytes) -> list[bytes]:
+        link = LinkSetup([], 0x7DF, 0, 0, 65535, self.pad, 1000, 1000, None, fill=0x5A if self.pad is None else self.pad)
+        return cut(link, message, self.tx_dl or 8)
 
     def put(self, identifier: int, data: bytes) -> None:
-        self.frames.append((self.ms, f"{identifier:0{8 if identifier > 0x7FF else 3}X}#{data.hex().upper()}"))
+        mark = "##5" if self.tx_dl else "#"
+        self.frames.append((self.ms, f"{identifier:0{8 if identifier > 0x7FF else 3}X}{mark}{data.hex().upper()}"))
 
     def send(self, identifier: int, back: int, message: bytes, flow: bytes) -> None:
         """A message in frames, with the flow control of the other side."""
-        frames = cut(self.link(), message)
+        frames = self.cut(message)
         for number, frame in enumerate(frames):
             self.put(identifier, frame)
             block = flow[1]
@@ -361,7 +365,7 @@ class Bus:
 
     def ask_all(self, unit: UnitModel, testers: int, request: bytes) -> None:
         """A functional request: each tester's connection has it."""
-        self.put(self.everyone, cut(self.link(), request)[0])
+        self.put(self.everyone, self.cut(request)[0])
         at = self.ms
         for tester in range(testers if unit.hears_all else 1):
             self.reply(tester, request, unit.answer(tester, request, True, at))
@@ -372,7 +376,7 @@ class Bus:
             return
         for _ in range(found.pendings):
             self.ms += found.after // (found.pendings + 1)
-            self.put(back, cut(self.link(), bytes([0x7F, request[0], 0x78]))[0])
+            self.put(back, self.cut(bytes([0x7F, request[0], 0x78]))[0])
         self.ms += max(1, found.after // (found.pendings + 1))
         self.send(back, own, found.data, b"\x30\0\0")
 
@@ -410,8 +414,8 @@ SCRIPTS: list[list[bytes]] = [
 ]
 
 
-def recording(seed: int, scripts: int = 12) -> str:
-    """The recording of a unit and of one or two testers."""
+def recording(seed: int, scripts: int = 12, is_fd: bool = False) -> str:
+    """The recording of a unit and of one or two testers, all by CAN FD or none."""
     chance = random.Random(seed)
     unit, testers = UnitModel(chance), chance.choice([1, 1, 2])
     bus = Bus(chance, chance.choice([0xCC, 0xAA, 0x00, None]), chance.choice([(0, 0), (8, 5), (2, 0)]))
@@ -419,6 +423,8 @@ def recording(seed: int, scripts: int = 12) -> str:
         bus.numbers = [(0x710, 0x77A), (0x711, 0x77B)]
     if seed % 4 == 2:
         bus.numbers, bus.everyone = [(0x18DA10F1, 0x18DAF110), (0x18DA10F2, 0x18DAF210)], 0x18DB33F1
+    if is_fd:
+        bus.tx_dl = chance.choice(LENGTHS)
     for _ in range(scripts):
         tester = chance.randrange(testers)
         for request in chance.choice(SCRIPTS):
@@ -488,9 +494,36 @@ class OfTheBus(unittest.TestCase):
         self.assertEqual((0xAA, 8, 5, 20, 20), (found.pad, found.block_size, found.st_min, found.longest, found.n_cr))
         self.assertIsNone(learn_bus.sending_of(self.lines("7E8#037F2E31", "7E8#027E00"), pair).pad)
 
+    def test_pairs_of_can_fd(self) -> None:
+        frames = ["7E0##10322F190", f"7E8##1001462F190{'41' * 17}CCCC", "7E1#023E00", "7E9#027E00", "7DF##1023E80"]
+        found = learn_bus.look(self.lines(*frames))
+        pairs = [found.joined(it) for it in learn_bus.pairs_of(found)]
+        self.assertEqual([("7E0:7E8", True), ("7E1:7E9", False)], [(it.shown(), it.is_fd) for it in pairs])
+        self.assertEqual((0x7DF, True), (learn_bus.functional_of(found, pairs), "7DF" in found.by_fd))
+        self.assertEqual([], self.pairs("7E0##10008" + "22", "7E8##1000862F190", "7E0##1000722F190F190F1", "7E8##1000A62" + "41" * 8))
+        self.assertEqual(["7E0:7E8"], self.pairs(f"7E0##1000922{'F190' * 4}00", "7E8##1037F2231"))
+
+    def test_how_the_unit_sends_by_can_fd(self) -> None:
+        pair = [learn_bus.Pair(0x7E0, 0x7E8, is_fd=True)]
+        single = f"7E8##A001462F190{'41' * 17}5555"
+        found = learn_bus.sending_of(self.lines("7E0##A0322F190", single, "7E8##A037F2231", "7E8##2300000"), pair)
+        self.assertEqual((None, 0x55, 24, 10), (found.pad, found.fill, found.tx_dl, found.flags))
+        found = learn_bus.sending_of(self.lines(single, "7E8##5037F2231AAAAAAAA", f"7E8##51014{'41' * 30}", "7E8#037F2231AAAAAAAA"), [learn_bus.Pair(0x7E0, 0x7E8)])
+        self.assertEqual((0xAA, None, 8, 1), (found.pad, found.fill, found.tx_dl, found.flags))
+        self.assertEqual(0x55, learn_bus.sending_of(self.lines(single), pair).pad)
+        # (a length that there isn't is a fault of the recording, which the program tells)
+        self.assertEqual(12, learn_bus.sending_of(self.lines("7E8##1" + "00" * 9), pair).tx_dl)
+
+    def test_broken_messages_of_can_fd(self) -> None:
+        pair = [learn_bus.Pair(0x7E0, 0x7E8, is_fd=True)]
+        first, rest = f"7E8##11067620101{'00' * 59}", f"7E8##121{'00' * 41}CCCCCCCCCCCC"
+        for count, frames in ((0, [first, "7E0##1300000", rest]), (1, [first, "7E0##1300000", rest.replace("##121", "##122")]), (1, [first, "7E0##1300000", f"7E8##121{'00' * 40}", "7E8##1023E00"])):
+            self.assertEqual(count, learn_bus.sending_of(self.lines(*frames), pair).broken.count, frames)
+
     def test_pairs_of_the_command_line(self) -> None:
         self.assertEqual(learn_bus.Pair(0x7E0, 0x7E8, False, "shop"), learn_bus.pair_of("7E0:7E8=shop"))
-        for text in ("7E0", "7E0:18DAF110", "7E0:x", "7:8", "7E0:7E8:fd", "7E0:7E8=a b", f"7E0:7E8={'a' * 17}"):
+        self.assertEqual(learn_bus.Pair(0x7E0, 0x7E8, False, "shop", True), learn_bus.pair_of("7E0:7E8:fd=shop"))
+        for text in ("7E0", "7E0:18DAF110", "7E0:x", "7:8", "7E0:7E8:f", "7E0:7E8=a b", f"7E0:7E8={'a' * 17}"):
             self.assertRaises(ValueError, learn_bus.pair_of, text)
 
 
@@ -613,6 +646,26 @@ class OfRecordings(unittest.TestCase):
                 found = learned_of(recording(seed))
                 told = re.sub("learn: .* pairs are taken .*\n", "", found.told)
                 self.assertEqual((0, ""), (found.status, told))
+
+    def test_the_small_unit_by_can_fd(self) -> None:
+        for seed in RUNS[:: 8]:
+            with self.subTest(seed=seed):
+                lines = recording(seed, is_fd=True)
+                found, pairs = learned_of(lines), {"7E8", "7E9", "77A", "77B", "18DAF110", "18DAF210"}
+                self.assertEqual((0, ""), (found.status, re.sub("learn: .* pairs are taken .*\n", "", found.told)))
+                lengths = [len(data) // 2 for identifier, data in re.findall(r" ([0-9A-F]+)##5([0-9A-F]*)", lines) if identifier in pairs]
+                self.assertEqual((max(8, *lengths), 5), (found.tree()["tx_dl"], found.tree()["fd_flags"]))
+                self.assertTrue(all(it["fd"] for it in found.tree()["tester"]))
+
+    def test_a_classic_pair_beside_one_of_can_fd(self) -> None:
+        """They can't have one functional identifier."""
+        value = "41" * 17
+        asks = ["7E0##10322F190", f"7E8##1001462F190{value}CCCC", "7E1#023E00", "7E9#027E00"]
+        for functional, own in (("7DF##1023E80", [None, 0x7FF]), ("7DF#023E80", [0x7FF, None]), ("123#00", [0x7FF, None])):
+            found = learned_of(frames(*((at * 100, it) for at, it in enumerate([*asks, functional]))))
+            self.assertEqual((0, [True, None]), (found.status, [it.get("fd") for it in found.tree()["tester"]]), found.told)
+            self.assertEqual(own, [it.get("functional") for it in found.tree()["tester"]], functional)
+            self.assertEqual((24, 0xCC, [{"id": 0xF190, "value": value}]), (found.tree()["tx_dl"], found.tree()["pad_byte"], found.tree()["did"]))
 
     def test_the_demo(self) -> None:
         for name in ("bus.log", "other_unit.log"):

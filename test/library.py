@@ -5,6 +5,7 @@
 - test/library/calls.c, compiled as C and as C++ with all warnings as errors, against both libraries; under valgrind, where
   that is installed. The line of a setup's fault is the program's, each key spoilt in turn.
 - Random captures (200, the same each time) by the library from C and from Python, beside `uds_play bus`: the same frames.
+  Every other one has testers of CAN FD.
 - The package's tests, by each Python that has what they want: python-can, scapy and pytest are Debian's packages.
 - Frames a second, of one tester: at least 1,000,000 from C and 100,000 from Python, in the best of eight turns. A turn
   counts where the machine is quick before and behind it: a million turns of an empty loop of Python take 0.05 s at most.
@@ -23,7 +24,7 @@ from harness import PROGRAM, TOP, Tally
 from build_library import SHARED, STATIC, build, how, kit
 from check_test import Written, changes, spoilt
 from packages import install
-from twin import Tester, setup_text, stamped_lines
+from twin import FdTester, Tester, setup_text, stamped_lines
 from uds_link import read_setup
 
 SETUP = f"{TOP}/demo/setup.toml"
@@ -39,8 +40,8 @@ C = ["cc", "-std=c11", *WARNINGS]
 CPP = ["c++", "-std=c++17", *WARNINGS, "-x", "c++"]
 # what the shared library may take from others: of the C library
 TAKES = {"malloc", "realloc", "free", "memcpy", "memmove", "memset", "memcmp"}
-BUS_LINE = re.compile(r"\((\d+)\.(\d{6})\) (\S+) ([0-9A-F]+)#([0-9A-F]*)")
-FRAME_LINE = re.compile(r"\((\d+)\.(\d{6})\) \S+ ([0-9A-F]{3}|[01][0-9A-F]{7})#((?:[0-9A-F]{2})*)(?: .*)?")
+BUS_LINE = re.compile(r"\((\d+)\.(\d{6})\) (\S+) ([0-9A-F]+)#(#[0-9A-F])?([0-9A-F]*)")
+FRAME_LINE = re.compile(r"\((\d+)\.(\d{6})\) \S+ ([0-9A-F]{3}|[01][0-9A-F]{7})#(#[0-9A-Fa-f])?((?:[0-9A-F]{2})*)(?: .*)?")
 # how many digits an identifier of 11 bits has, and the bit of one of 29
 PLAIN_ID, EXTENDED = 3, 1 << 31
 # what demo/first.c prints
@@ -73,7 +74,7 @@ def look():
         declared = set(re.findall(r"^uint32_t (uds_unit_\w+)\(", it.read(), re.M))
     given = {it for it in symbols("--defined-only") if "@@" in it}
     told(declared == calls and {it.split("@@")[0] for it in given if "uds_unit_" in it} == calls, "it gives the header's calls", given)
-    told(all(it.endswith("@@UDS_UNIT_1") or it == "UDS_UNIT_1" for it in given), "each in a version", given)
+    told(all(it.endswith("@@UDS_UNIT_2") or it == "UDS_UNIT_2" for it in given), "each in a version", given)
     taken = {it.split("@")[0] for it in symbols("--undefined-only")}
     told(taken <= TAKES, "it takes the C library's alone", taken)
     needed = re.findall(r"NEEDED\s+(\S+)", run(["objdump", "-p", SHARED]).stdout)
@@ -97,7 +98,7 @@ def compiled(room, name, words, source, library):
 
 def test_c(room):
     """The calls, as C and as C++, with both libraries."""
-    shutil.copy(SHARED, f"{room}/libuds_unit.so.1")
+    shutil.copy(SHARED, f"{room}/libuds_unit.so.2")
     for language, words in (("C", C), ("C++", CPP)):
         for kind, library in (("static", STATIC), ("shared", SHARED)):
             program = compiled(room, f"calls_{language}_{kind}", words, "test/library/calls.c", library)
@@ -158,15 +159,21 @@ def test_fault_lines(room):
 # ---- captures
 
 
-def heard_of(line):
+def heard_of(line, by_fd):
     """A line with a frame, as what a call takes: the moment in microseconds, the identifier and the bytes; of any other kind
-    of line its moment alone."""
+    of line its moment alone, and of one of CAN FD whose identifier isn't among these."""
     found = FRAME_LINE.fullmatch(line)
-    if found is None:
+    if found is None or (found[4] and found[3] not in by_fd):
         stamp = re.match(r"\((\d+)\.(\d{6})\)", line)
         return int(stamp[1]) * 1_000_000 + int(stamp[2]), None, None
-    seconds, micros, identifier, data = found.groups()
+    seconds, micros, identifier, _, data = found.groups()
     return int(seconds) * 1_000_000 + int(micros), number_of(identifier), bytes.fromhex(data)
+
+
+def fd_ids(setup):
+    """The identifiers by which testers ask by CAN FD, as lines have them."""
+    own = [(request, functional) for (_, request, _), functional, is_fd in zip(setup.testers, setup.functionals, setup.fds) if is_fd]
+    return {it for pair in own for it in pair}
 
 
 def number_of(identifier):
@@ -175,16 +182,20 @@ def number_of(identifier):
 
 
 def sent_by_bus(config, path, names):
-    """What `bus` sends: microseconds, the tester's place, identifier, bytes."""
+    """What `bus` sends: microseconds, the tester's place, identifier, bytes, and whether it is of CAN FD."""
     ran = run([PROGRAM, "--quiet", "bus", config, path])
     frames = [BUS_LINE.fullmatch(line).groups() for line in ran.stdout.splitlines()]
-    return [(int(s) * 1_000_000 + int(us), names.index(name) + 1, number_of(i), bytes.fromhex(data)) for s, us, name, i, data in frames]
+    return [
+        (int(s) * 1_000_000 + int(us), names.index(name) + 1, number_of(i), bytes.fromhex(data), flags is not None)
+        for s, us, name, i, flags, data in frames
+    ]
 
 
 def sent_by_c(program, config, heard):
     lines = (f"{at}" if i is None else f"{at} {i:X} {data.hex()}" for at, i, data in heard)
     ran = run([program, config], input="".join(f"{line}\n" for line in lines))
-    return [(int(at), int(who), int(i, 16), bytes.fromhex(data)) for at, who, i, data in (line.split(" ") for line in ran.stdout.splitlines())]
+    frames = [line.split(" ") for line in ran.stdout.splitlines()]
+    return [(int(at), int(who), int(i, 16), bytes.fromhex(data), fd == "1") for at, who, i, fd, data in frames]
 
 
 def sent_by_python(config, heard, names):
@@ -195,23 +206,25 @@ def sent_by_python(config, heard, names):
         for at, i, data in heard:
             time = at / 1_000_000
             frames = unit.advance(time) if i is None else unit.frame(time, i % EXTENDED, data, extended=i >= EXTENDED)
-            sent += [(round(it.time * 1_000_000), names.index(it.tester) + 1, it.id | it.extended << 31, it.data) for it in frames]
+            sent += [(round(it.time * 1_000_000), names.index(it.tester) + 1, it.id | it.extended << 31, it.data, it.fd) for it in frames]
     return sent
 
 
 def test_captures(room, program):
-    frames = wrong = 0
+    frames = longer = wrong = 0
     for seed in range(1, CAPTURES + 1):
         chance = random.Random(seed)
-        text = setup_text(chance, TESTERS)
+        text = setup_text(chance, TESTERS, fd=seed % 2 == 0)
         setup, config, path = read_setup(text), f"{room}/setup.toml", f"{room}/capture.log"
-        lines = [it for it in stamped_lines([Tester(chance, setup, place) for place in range(TESTERS)]) if not it.startswith("tick")]
+        testers = [(FdTester if is_fd else Tester)(chance, setup, place) for place, is_fd in enumerate(setup.fds)]
+        lines = [it for it in stamped_lines(testers) if not it.startswith("tick")]
         names = [f"T{place}" for place in range(TESTERS)]
         with open(config, "w", encoding="ascii") as it:
             it.write(text)
         with open(path, "w", encoding="ascii") as it:
             it.write("".join(f"{line}\n" for line in lines))
-        heard = [heard_of(line) for line in lines]
+        by_fd = fd_ids(setup)
+        heard = [heard_of(line, by_fd) for line in lines]
         expected = sent_by_bus(config, path, names)
         for kind, sent in (("C", sent_by_c(program, config, heard)), ("Python", sent_by_python(config, heard, names))):
             if sent != expected:
@@ -219,7 +232,9 @@ def test_captures(room, program):
                 differs = next((n for n, (a, b) in enumerate(zip(sent, expected)) if a != b), min(len(sent), len(expected)))
                 told(False, f"capture {seed} from {kind}", f"frame {differs}: {sent[differs : differs + 2]}, bus {expected[differs : differs + 2]}")
         frames += len(expected)
-    told(wrong == 0 and frames > 20 * CAPTURES, f"{CAPTURES} captures from C and from Python send what bus does, {frames} frames")
+        longer += sum(len(data) > 8 for *_, data, _ in expected)
+    good = wrong == 0 and frames > 20 * CAPTURES and longer > CAPTURES
+    told(good, f"{CAPTURES} captures from C and from Python send what bus does, {frames} frames, {longer} of more than 8 bytes")
 
 
 # ---- speed

@@ -1,5 +1,5 @@
-"""The testers of test/live.py that python-can plays: messages on a virtual bus, which go to the program as lines of
-python-can's writer, and come back by its reader. No part of what is proved."""
+"""The testers of test/live.py that python-can plays: messages on a virtual bus, classic ones and such of CAN FD, which go to
+the program as lines of python-can's writer, and come back by its reader. No part of what is proved."""
 import io
 import logging
 import os
@@ -30,12 +30,28 @@ request = 0x18DA10F2
 response = 0x18DAF210
 functional = 0x18DB33F2
 
+[[tester]]
+name = "D"
+request = 0x7E2
+response = 0x7EA
+functional = 0x7D0
+fd = true
+
 [[did]]
 id = 0xF190
 value = "30313233343536373839414243444546"
-"""
+
+[[did]]
+id = 0xF191
+value = "%s"
+""" % bytes(range(100)).hex()
 SESSION, BUSY, PRESENT = "065003003201F4CC", "037F1021CCCCCCCC", "027E00CCCCCCCCCC"
 FRAMES = ["101362F190303132", "2133343536373839", "22414243444546CC"]
+# the same by CAN FD, and an answer of two frames
+SINGLE = "##1001362F19030313233343536373839414243444546CCCCCC"
+LONG = [f"##1106762F191{bytes(range(59)).hex().upper()}", f"##121{bytes(range(59, 100)).hex().upper()}{'CC' * 6}"]
+# a request of 100 identifiers that there aren't, in frames of 64 bytes
+ASKED = ["10C922" + "FF" * 61, "21" + "FF" * 63, "22" + "FF" * 63, "23" + "FF" * 13 + "55" * 2]
 
 
 def found():
@@ -110,6 +126,12 @@ def bus_of(run, *filters):
     return can.Bus(interface="virtual", channel=run.channel, can_filters=list(filters) or None)
 
 
+def text_of(message):
+    """A frame that was heard, by its bytes; of CAN FD behind its flags, as lines have it."""
+    flags = message.bitrate_switch | message.error_state_indicator << 1
+    return f"##{flags:X}" * message.is_fd + bytes(message.data).hex().upper()
+
+
 class Tester:
     """A tester that hears the frames of one identifier alone."""
 
@@ -125,7 +147,7 @@ class Tester:
     def hears(self, *want):
         """What is wrong with the frames that come next, which are to be these."""
         found = [self.bus.recv(PATIENCE) for _ in want]
-        texts = ["nothing" if it is None else bytes(it.data).hex().upper() for it in found]
+        texts = ["nothing" if it is None else text_of(it) for it in found]
         return "" if texts == list(want) else f"{texts} in place of {list(want)}; "
 
     def asks(self, data, *want, **how):
@@ -143,8 +165,25 @@ def both_kinds(_, run):
     return wrong + "".join(it.asks("0110", "037F1013CCCCCCCC") for it in (a, one, other))
 
 
+def by_fd(_, run):
+    """A tester that talks by CAN FD beside a classic one: short and long frames both ways, with any flags, and classic ones."""
+    a, d = Tester(run, 0x7E0, 0x7E8, False), Tester(run, 0x7E2, 0x7EA, False)
+    fast, passive = {"is_fd": True, "bitrate_switch": True}, {"is_fd": True, "error_state_indicator": True}
+    wrong = d.asks("021003", f"##1{SESSION}", **fast) + a.asks("021003", BUSY)
+    wrong += d.asks("0322F190", SINGLE, **passive) + d.asks("0322F190", SINGLE) + a.asks("0322F190", FRAMES[0]) + a.asks("300000", *FRAMES[1:])
+    wrong += d.asks("0322F191", LONG[0], is_fd=True) + d.asks("300000", LONG[1], **fast)
+    wrong += d.asks(ASKED[0], "##1300000CCCCCCCCCC", **fast)
+    for frame in ASKED[1:-1]:
+        d.send(frame, **fast)
+    wrong += d.asks(ASKED[-1], "##1037F2231CCCCCCCC", **fast)
+    wrong += d.asks("023E00", f"##1{PRESENT}", request=0x7D0, **fast) + a.asks("023E00", PRESENT, request=0x7DF)
+    # (what came to another tester meanwhile would stand before this)
+    return wrong + a.asks("0110", "037F1013CCCCCCCC") + d.asks("0110", "##1037F1013CCCCCCCC")
+
+
 def others(_, run):
-    """What isn't of a tester draws nothing: another kind of identifier, another unit, remote and error frames, CAN FD."""
+    """What isn't of a tester draws nothing: another kind of identifier, another unit, remote and error frames, CAN FD to a
+    classic one."""
     a, one = Tester(run, 0x7E0, 0x7E8, False), Tester(run, 0x18DA10F1, 0x18DAF110, True)
     a.send("021003", is_extended_id=True)
     one.send("021003", request=0x18DA11F1)
@@ -152,6 +191,8 @@ def others(_, run):
     one.send("021003", request=0x7DF)
     one.send("", is_remote_frame=True)
     one.send("021003", is_fd=True)
+    a.send(f"000922{'FF' * 8}00", is_fd=True)
+    a.send("023E00", request=0x7DF, is_fd=True)
     one.send("", is_error_frame=True)
     return one.asks("023E00", PRESENT) + a.asks("023E00", PRESENT)
 
@@ -168,4 +209,8 @@ def plays(group, name):
     return play
 
 
-GROUPS = [plays(both_kinds, "testers of 11 and of 29 bits"), plays(others, "what is no tester's")]
+GROUPS = [
+    plays(both_kinds, "testers of 11 and of 29 bits"),
+    plays(by_fd, "a tester of CAN FD beside a classic one"),
+    plays(others, "what is no tester's"),
+]

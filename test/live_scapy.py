@@ -1,5 +1,5 @@
 """The testers of test/live.py that scapy plays: its ISO-TP and its UDS layer, and its scanners, over a CAN socket that
-speaks the program's lines, with identifiers of 11 and of 29 bits. No part of what is proved."""
+speaks the program's lines, with identifiers of 11 and of 29 bits, and by CAN FD. No part of what is proved."""
 import contextlib
 import itertools
 import logging
@@ -11,6 +11,7 @@ import time
 
 import packages
 from harness import DEBIAN
+from uds_link import LENGTHS, cut, read_setup
 
 SERVICES = {0x10, 0x11, 0x14, 0x19, 0x22, 0x27, 0x2E, 0x31, 0x3E, 0x85}
 LONG = bytes(range(60)).hex().upper()
@@ -41,17 +42,19 @@ def loads():
         from scapy.contrib.automotive import log_automotive, uds, uds_scan
         from scapy.contrib.isotp import ISOTPSoftSocket
         from scapy.contrib.isotp.isotp_scanner import scan as isotp_scan
-        from scapy.layers.can import CAN
+        from scapy.layers.can import CAN, CANFD
         from scapy.supersocket import SuperSocket
     except ImportError:
         return False
     log_automotive.setLevel(logging.CRITICAL)
-    globals().update(uds=uds, uds_scan=uds_scan, ISOTPSoftSocket=ISOTPSoftSocket, isotp_scan=isotp_scan, wire=wire_class(SuperSocket, CAN))
+    globals().update(uds=uds, uds_scan=uds_scan, ISOTPSoftSocket=ISOTPSoftSocket, isotp_scan=isotp_scan, CANFD=CANFD)
+    globals().update(wire=wire_class(SuperSocket, CAN, CANFD))
     return True
 
 
-def wire_class(socket_class, packet_class):
-    """The class of a CAN socket over a run: frames go as lines, and those of some identifiers come back."""
+def wire_class(socket_class, packet_class, fd_class):
+    """The class of a CAN socket over a run: frames go as lines, and those of some identifiers come back; those of CAN FD have a
+    class of their own."""
 
     class Wire(socket_class):
         nonblocking_socket = True
@@ -64,15 +67,26 @@ def wire_class(socket_class, packet_class):
         def send(self, x):
             # (behind a frame's head of eight bytes stands its data, whatever layers of scapy's it is made of)
             data = bytes(x)[8:]
-            self.run.send(f"{x.identifier:0{digits(x.flags.extended)}X}", data.hex().upper())
+            flags = f"#{int(x.fd_flags):X}" if isinstance(x, fd_class) else ""
+            self.run.send(f"{x.identifier:0{digits(x.flags.extended)}X}", flags + data.hex().upper())
             return len(data)
 
         def recv(self, x=0):
             for identifier, came in self.came.items():
                 with contextlib.suppress(queue.Empty):
-                    data = bytes.fromhex(came.get_nowait()[1])
-                    return packet_class(identifier=identifier, flags="extended" if is_wide(identifier) else 0, data=data)
+                    text = came.get_nowait()[1]
+                    how = {"identifier": identifier, "flags": "extended" if is_wide(identifier) else 0}
+                    if text.startswith("#"):
+                        return fd_class(fd_flags=int(text[1], 16), data=bytes.fromhex(text[2:]), **how)
+                    return packet_class(data=bytes.fromhex(text), **how)
             return None
+
+        def waited(self, patience=5):
+            """The next frame, waited for so many seconds."""
+            end = time.monotonic() + patience
+            while (found := self.recv()) is None and time.monotonic() < end:
+                time.sleep(0.001)
+            return found
 
         @staticmethod
         def select(sockets, remain=None):
@@ -304,4 +318,58 @@ def wide_scan(room, live):
     live.told(not wrong, "scapy: its scanner of ISO-TP, by identifiers of 29 bits", wrong)
 
 
-GROUPS = [whole_session, by_the_clock, separation, two_at_once, scan, wide_session, wide_scan]
+# ---- by CAN FD
+
+FD = "\nfd = true\nfunctional = 0x7D0"
+# the flags that Linux has for a frame of CAN FD: that it is one, and its bit rate switch
+FD_FLAGS = "fd_frame+bit_rate_switch"
+
+
+def fd_setup(live, tx_dl):
+    """A setup whose first tester talks by CAN FD, and the second doesn't."""
+    return f"tx_dl = {tx_dl}\n{live.SETUP.replace('response = 0x7E8', f'response = 0x7E8{FD}')}{MORE}"
+
+
+def fd_answers(room, live):
+    """scapy's ISO-TP takes the length of an answer's frames from its FirstFrame. The tester's own frames are classic, which the
+    unit takes of one by CAN FD, too."""
+    wrong = ""
+    for tx_dl in LENGTHS:
+        with live.running(room, fd_setup(live, tx_dl)) as run, tester(run, 0, stmin=1, bs=4) as a, tester(run, 1) as b:
+            wrong += asks(a, session(3), "5003003201F4") + asks(b, session(3), "7F1021") + asks(a, write(0xF191, OTHER), "6EF191")
+            wrong += asks(a, read(0xF191), f"62F191{OTHER}") + asks(b, read(0xF191), f"62F191{OTHER}")
+            wrong += run.ends_well()
+    live.told(not wrong, "scapy: answers in frames of CAN FD of each length", wrong)
+
+
+def fd_frames(room, live):
+    """scapy's frames of CAN FD, in which a request goes in one length after the other."""
+    link = read_setup(live.SETUP)
+    with live.running(room, fd_setup(live, 20)) as run:
+        one = wire(run, 0x7E8)
+        wrong = exchanges(one, [b"\x02\x10\x03"], "065003003201F4CC")
+        for size in LENGTHS:
+            wrong += exchanges(one, cut(link, b"\x2e\xf1\x91" + bytes.fromhex(LONG), size), "036EF191CCCCCCCC")
+        wrong += exchanges(one, cut(link, b"\x22" + b"\xff\xff" * 20, 64), "037F2231CCCCCCCC")
+        wrong += run.ends_well()
+    live.told(not wrong, "scapy: its frames of CAN FD of each length", wrong)
+
+
+def exchanges(one, frames, answer):
+    """What is wrong with what comes to a request in these frames: behind the first of several FlowControl, and the answer."""
+    first, *rest = (CANFD(identifier=0x7E0, fd_flags=FD_FLAGS, data=it) for it in frames)
+    one.send(first)
+    wrong = hears(one, "300000CCCCCCCCCC") if rest else ""
+    for it in rest:
+        one.send(it)
+    return wrong + hears(one, answer)
+
+
+def hears(one, want):
+    """What is wrong with the next frame, which is to be one of CAN FD with these bytes."""
+    found = one.waited()
+    is_it = isinstance(found, CANFD) and (int(found.fd_flags), bytes(found.data)) == (1, bytes.fromhex(want))
+    return "" if is_it else f"{found!r} in place of {want}; "
+
+
+GROUPS = [whole_session, by_the_clock, separation, two_at_once, scan, wide_session, wide_scan, fd_answers, fd_frames]

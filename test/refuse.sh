@@ -164,6 +164,13 @@ sweep_program() {
       "$program" --quiet compare runs/compare/varies/lax.toml runs/compare/varies/capture.log
     writes_as_it_goes=1 sweep_run "exchanges before a fault" 3 runs/compare/fault/stdout 'uds_play: capture line 6: bad tick' \
       "$program" --quiet compare runs/setup.toml runs/compare/fault/capture.log
+    writes_as_it_goes=1 sweep_run "requests by CAN FD" 0 runs/bus/fd_limits/bus.stdout '' \
+      "$program" --quiet bus runs/fd.toml runs/bus/fd_limits/capture.log
+    writes_as_it_goes=1 sweep_run "long replies by CAN FD" 0 runs/bus/fd_flow_limits/stdout '' \
+      "$program" --quiet bus runs/bus/fd_flow_limits/setup.toml runs/bus/fd_flow_limits/capture.log
+    sweep_run "a verdict by CAN FD" 0 runs/verify/fd/stdout '' "$program" --quiet verify runs/fd.toml runs/verify/fd/unit.log
+    writes_as_it_goes=1 sweep_run "exchanges by CAN FD" 0 runs/compare/fd/stdout '' \
+      "$program" --quiet compare runs/fd.toml runs/compare/fd/capture.log
     sweep_run "a capture that is not there" 7 "$room/nothing" 'uds_play: cannot read file 1' "$program" --quiet bus "$room/config" "$room/none"
     printf 's3_m = 1\n[[tester]]\nname = "A"\nrequest = 710\n' > "$room/slips"
     {

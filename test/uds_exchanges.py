@@ -9,7 +9,7 @@ from typing import Optional
 
 import uds_link
 import uds_run
-from uds_link import FIRST, SINGLE, begun, bus_events, is_a, kind, moments_of, parts_of, reception, steps
+from uds_link import FIRST, SINGLE, begun, bus_events, is_a, moments_of, reception, steps
 from uds_rules import fits, pattern_of
 
 # a listener takes the longest message, and waits so long for its next frame, in milliseconds
@@ -159,7 +159,8 @@ class Message:
 def unit_side(setup: uds_link.Setup, place: int) -> uds_link.Setup:
     """The links' setup of a listener that takes the unit's frames to a tester as physical ones."""
     name, request, response = setup.testers[place]
-    return replace(setup, testers=[(name, response, request)], functionals=[None], most=LONGEST, n_cr=PATIENCE)
+    side = {"testers": [(name, response, request)], "functionals": [None], "fds": [setup.fds[place]]}
+    return replace(setup, **side, most=LONGEST, n_cr=PATIENCE)
 
 
 def messages(setup: Setup, lines: list[str], place: int) -> list[Message]:
@@ -188,7 +189,7 @@ def unfinished(side: uds_link.Setup, by_line: list[list], moments: list[tuple], 
         events += len(here)
         now = places[events - 1] if events else 0
         is_open = reception(side, moments, now)
-        if is_open and len(is_open[2]) < parts_of(is_open[0]):
+        if is_open and not is_open.is_whole():
             found[number] = begun(moments, now)
     return found
 

@@ -4,24 +4,28 @@ kept. But which row of answers decides about a request is followed through the j
 test/twin.py and test/examples.py, which compare it with what the program sends; no part of what is proved."""
 import re
 import tomllib
-from dataclasses import dataclass
+from dataclasses import dataclass, field
 
 import uds_run
 from uds_rules import pending
 
 SINGLE, FIRST, OVERFLOW, CONSECUTIVE, FLOW = "single", "first", "overflow", "consecutive", "flow"
 LINE = re.compile(r"\((\d+)\.(\d{3})\d*\) +\S+ +([0-9A-Fa-f]{3}|[0-9A-Fa-f]{8})#((?:[0-9A-Fa-f]{2}){0,8})(?:_[0-9A-Fa-f])?(?: .*)?$")
+FD_LINE = re.compile(r"\((\d+)\.(\d{3})\d*\) +\S+ +([0-9A-Fa-f]{3}|[0-9A-Fa-f]{8})##[0-9A-Fa-f]((?:[0-9A-Fa-f]{2}){0,64})(?: .*)?$")
 STAMP = re.compile(r"\((\d+)\.(\d{3})\d*\) ")
-REPLY = re.compile(r"\((\d+)\.(\d{3})000\) (\S+) ([0-9A-F]{3}|[0-9A-F]{8})#([0-9A-F]*)$")
+REPLY = re.compile(r"\((\d+)\.(\d{3})000\) (\S+) ((?:[0-9A-F]{3}|[0-9A-F]{8})#(?:#[0-9A-F])?)([0-9A-F]*)$")
 ENTRY = re.compile(r"(?:(\d+) )?([1-8]) (?:(T) (\d+)|([PF]) ([0-9A-F]+) (-|[0-9A-F]+))$")
 LONGEST = 60000
+# the lengths of the frames of a message of several: on classic CAN 8
+LENGTHS = (8, 12, 16, 20, 24, 32, 48, 64)
 
 
 @dataclass
 class Setup:
     """What links need of a setup: the testers as name, request and response identifier, their functional identifiers, and
-    each link's settings; and the rows of answers, with the times of response pending, in `unit`. Identifiers are texts of
-    three upper-case hex digits, or of eight."""
+    each link's settings; the rows of answers, with the times of response pending, in `unit`; and of CAN FD which testers
+    talk by it, how long a frame to these is at most, the digit of its flags, and the byte that fills one of more than 8.
+    Identifiers are texts of three upper-case hex digits, or of eight."""
 
     testers: list
     functionals: list
@@ -32,6 +36,10 @@ class Setup:
     n_bs: int
     n_cr: int
     unit: uds_run.Setup
+    fds: list = field(default_factory=list)
+    tx_dl: int = 64
+    flags: int = 1
+    fill: int = 0xCC
 
 
 def read_setup(text):
@@ -46,7 +54,22 @@ def read_setup(text):
         tree.get("n_bs_ms", 1000),
         tree.get("n_cr_ms", 1000),
         uds_run.read_setup(text),
+        [it.get("fd", False) for it in tree["tester"]],
+        tree.get("tx_dl", 64),
+        tree.get("fd_flags", 1),
+        tree.get("pad_byte", 0xCC),
     )
+
+
+def tx_dl_of(setup, place):
+    """How long a frame to a tester is at most."""
+    return setup.tx_dl if setup.fds[place] else 8
+
+
+def sender_of(setup, place):
+    """What stands before the bytes of a frame to a tester: its name, and the response identifier with its mark."""
+    name, _, response = setup.testers[place]
+    return name, f"{response}##{setup.flags:X}" if setup.fds[place] else f"{response}#"
 
 
 # ---- events: ("T", ticks), ("P", bytes) and ("F", bytes)
@@ -63,7 +86,7 @@ def waited(span):
 
 def frame_of(setup, place, line):
     """What the frame of a line is to a tester, with its moment in milliseconds; None where it is nothing to it."""
-    found = LINE.match(line)
+    found = LINE.match(line) or (setup.fds[place] and FD_LINE.match(line))
     way = found and {setup.testers[place][1]: "P", setup.functionals[place]: "F"}.get(found[3].upper())
     return (way, bytes.fromhex(found[4]), int(found[1] + found[2])) if way else None
 
@@ -108,12 +131,26 @@ def turns(logs):
 # ---- what a received frame is
 
 
+def single_most(size):
+    """The longest message that stands in one frame of so many bytes."""
+    return size - 1 if size <= 8 else size - 2
+
+
+def single_of(data):
+    """A message of one frame, by its length in byte 0, or in byte 1 behind 00 where the frame has more than 8 bytes."""
+    at, least = (1, 1) if len(data) <= 8 else (2, 8)
+    is_one = (at == 1 or data[0] == 0) and least <= data[at - 1] <= single_most(len(data))
+    return (SINGLE, data[at : at + data[at - 1]]) if is_one else None
+
+
 def first_of(data, most):
+    """The first of several frames, which are as long as it is: the message's length, which one frame doesn't hold, the bytes
+    of it, and how long the frames are."""
     short, escape = int.from_bytes(data[:2], "big") & 0xFFF, int.from_bytes(data[2:6], "big")
     length, head = (short, data[2:]) if short else (escape, data[6:])
-    if len(data) < 8 or length < (8 if short else 4096):
+    if len(data) not in LENGTHS or length <= (single_most(len(data)) if short else 4095):
         return None
-    return (FIRST, length, head) if length <= most else (OVERFLOW,)
+    return (FIRST, length, head, len(data)) if length <= most else (OVERFLOW,)
 
 
 def kind(data, most):
@@ -121,8 +158,8 @@ def kind(data, most):
     if not data:
         return None
     high, low = data[0] >> 4, data[0] & 15
-    if high == 0 and 1 <= low <= 7 and len(data) > low:
-        return (SINGLE, data[1 : 1 + low])
+    if high == 0:
+        return single_of(data)
     if high == 1:
         return first_of(data, most)
     if high == 2:
@@ -153,13 +190,28 @@ def moments_of(setup, log):
 # ---- receptions
 
 
-def head_size(length):
-    return 6 if length <= 4095 else 2
+@dataclass
+class Reception:
+    """A message that comes in: its length, the bytes of its First, how long its frames are, and the parts that came."""
 
+    length: int
+    head: bytes
+    size: int
+    parts: list
 
-def parts_of(length):
-    """How many Consecutives a message has behind its First."""
-    return -(-(length - head_size(length)) // 7)
+    def count(self):
+        """How many Consecutives the message has."""
+        return -(-(self.length - len(self.head)) // (self.size - 1))
+
+    def least(self, at):
+        """How many bytes of the message the Consecutive at this place has."""
+        return min(self.size - 1, self.length - len(self.head) - (self.size - 1) * at)
+
+    def is_whole(self):
+        return len(self.parts) >= self.count()
+
+    def message(self):
+        return (self.head + b"".join(self.parts))[: self.length]
 
 
 def begun(moments, now):
@@ -168,19 +220,18 @@ def begun(moments, now):
 
 
 def reception(setup, moments, now):
-    """The length, the First's bytes and the parts of the reception that is open after moment `now`; None where none is."""
+    """The reception that is open after moment `now`; None where none is."""
     start = begun(moments, now)
     if not is_a(moments[start][1], FIRST):
         return None
-    _, length, head = moments[start][1]
     came = [(time, *it[1:]) for time, it in moments[start : now + 1] if is_a(it, CONSECUTIVE)]
-    wanted = [min(7, length - head_size(length) - 7 * at) for at in range(len(came))]
-    good = len(came) <= parts_of(length)
+    found = Reception(*moments[start][1][1:], [part for _, _, part in came])
+    good = len(came) <= found.count()
     good = good and all(number == (at + 1) % 16 for at, (_, number, _) in enumerate(came))
-    good = good and all(len(part) >= least for least, (_, _, part) in zip(wanted, came))
+    good = good and all(found.least(at) <= len(part) < found.size for at, part in enumerate(found.parts))
     times = [moments[start][0], *(time for time, _, _ in came), moments[now][0]]
     good = good and all(later - one < setup.n_cr for one, later in zip(times, times[1:]))
-    return (length, head, [part for _, _, part in came]) if good else None
+    return found if good else None
 
 
 def gives(setup, event, moments, now):
@@ -194,9 +245,7 @@ def gives(setup, event, moments, now):
     if way == "F" or not is_a(found, CONSECUTIVE):
         return None
     is_open = reception(setup, moments, now)
-    if not is_open or len(is_open[2]) < parts_of(is_open[0]):
-        return None
-    return "P", (is_open[1] + b"".join(is_open[2]))[: is_open[0]]
+    return ("P", is_open.message()) if is_open and is_open.is_whole() else None
 
 
 def steps(setup, log):
@@ -209,16 +258,20 @@ def steps(setup, log):
 
 
 def filled(setup, data):
-    return data if setup.pad is None else data.ljust(8, bytes([setup.pad]))
+    """A frame: of up to 8 bytes with its padding, where there is any; a longer one filled up to the next length."""
+    if len(data) <= 8:
+        return data if setup.pad is None else data.ljust(8, bytes([setup.pad]))
+    return data.ljust(next(it for it in LENGTHS if it >= len(data)), bytes([setup.fill]))
 
 
-def cut(setup, message):
-    """The frames of a message."""
-    if len(message) <= 7:
-        return [filled(setup, bytes([len(message)]) + message)]
-    at = head_size(len(message))
-    control = (0x1000 | len(message)).to_bytes(2, "big") if at == 6 else b"\x10\0" + len(message).to_bytes(4, "big")
-    parts = [message[it : it + 7] for it in range(at, len(message), 7)]
+def cut(setup, message, tx_dl=8):
+    """The frames of a message, none longer than `tx_dl`."""
+    size = len(message)
+    if size <= single_most(tx_dl):
+        return [filled(setup, (bytes([size]) if size <= 7 else bytes([0, size])) + message)]
+    control = (0x1000 | size).to_bytes(2, "big") if size <= 4095 else b"\x10\0" + size.to_bytes(4, "big")
+    at, room = tx_dl - len(control), tx_dl - 1
+    parts = [message[it : it + room] for it in range(at, size, room)]
     rest = [filled(setup, bytes([0x20 | number % 16]) + part) for number, part in enumerate(parts, 1)]
     return [control + message[:at], *rest]
 
@@ -232,8 +285,8 @@ def grant(setup, moments, at):
     if is_a(it, OVERFLOW):
         return filled(setup, b"\x32\0\0")
     is_open = reception(setup, moments, at) if setup.block_size and is_a(it, CONSECUTIVE) else None
-    count = len(is_open[2]) if is_open else 0
-    return go_on if count and count % setup.block_size == 0 and count < parts_of(is_open[0]) else None
+    count = len(is_open.parts) if is_open else 0
+    return go_on if count and count % setup.block_size == 0 and not is_open.is_whole() else None
 
 
 def gap_of(st):
@@ -271,16 +324,16 @@ def moment_after(moments, at, least, ticks):
     return next((it for it in range(least, len(moments)) if moments[it][0] >= moments[at][0] + ticks), None)
 
 
-def wire(setup, log, messages):
-    """All frames of a link: the moment, the time and the bytes of each. `messages` has pairs of the moment at which a
-    message is placed and its bytes, in order."""
+def wire(setup, log, messages, tx_dl=8):
+    """All frames of a link, none longer than `tx_dl`: the moment, the time and the bytes of each. `messages` has pairs of the
+    moment at which a message is placed and its bytes, in order."""
     moments, _ = moments_of(setup, log)
     found = [(at, 0, 0, grant(setup, moments, at)) for at, (_, it) in enumerate(moments) if it]
     free = 0
     for number, (start, message) in enumerate(messages, 1):
         if free is None:
             break
-        frames = cut(setup, message)
+        frames = cut(setup, message, tx_dl)
         goes, free = draw(setup, moments, len(frames), max(free, start))
         found += [(at, number, it, frames[it]) for it, at in enumerate(goes)]
     return [(at, moments[at][0], frame) for at, _, _, frame in sorted(it for it in found if it[3] is not None)]
@@ -318,8 +371,8 @@ def placed(setup, log, steps_of, answers):
 
 
 def read_output(text):
-    """The reply lines, as time in milliseconds, name, identifier and bytes; the journal's entries, as what stands before
-    them, the tester's place, the kind, the request or the ticks, and the reply or None."""
+    """The reply lines, as time in milliseconds, name, identifier with its mark, and bytes; the journal's entries, as what
+    stands before them, the tester's place, the kind, the request or the ticks, and the reply or None."""
     sent, entries = [], []
     for line in text.splitlines():
         reply, entry = REPLY.match(line), ENTRY.match(line)
@@ -380,9 +433,8 @@ def differs(setup, logs, text, in_turn, stamps):
         return "the journal's order"
     said, wanted = rows_say(setup, entries), []
     for place, (log, of) in enumerate(zip(logs, all_steps)):
-        name, _, response = setup.testers[place]
         messages = placed(setup, log, of, answers_of(entries, said, place))
-        wanted += [(at, name, response, data) for _, at, data in wire(setup, log, messages)]
+        wanted += [(at, *sender_of(setup, place), data) for _, at, data in wire(setup, log, messages, tx_dl_of(setup, place))]
     return other_answer(said) if sent == wanted else first_apart(sent, wanted)
 
 
@@ -404,10 +456,11 @@ def bus_differs(setup, lines, text, journal):
     for place, log in enumerate(logs):
         line_of = [line for who, _, line in pairs if who == place]
         _, places = moments_of(setup, log)
-        frames = wire(setup, log, placed(setup, log, all_steps[place], answers_of(entries, said, place)))
+        messages = placed(setup, log, all_steps[place], answers_of(entries, said, place))
+        frames = wire(setup, log, messages, tx_dl_of(setup, place))
         drawn += [(line_at(places, line_of, moment), at, place, data) for moment, at, data in frames]
     start, before = beginning(lines)
-    wanted = [(at - before + start, *setup.testers[place][::2], data) for _, at, place, data in sorted(drawn, key=lambda it: it[:3])]
+    wanted = [(at - before + start, *sender_of(setup, place), data) for _, at, place, data in sorted(drawn, key=lambda it: it[:3])]
     return other_answer(said) if sent == wanted else first_apart(sent, wanted)
 
 

@@ -476,7 +476,7 @@ def in_text(journal):
 
 
 def grants_in(frames):
-    return len(re.findall(r"#3[0-9A-F]", frames))
+    return len(re.findall(r"#(?:#1)?3[0-9A-F]", frames))
 
 
 def is_quiet(page):
@@ -491,7 +491,8 @@ def whole_pages(room, page):
     journal = run("bus", "--journal", config, f"{TOP}/demo/bus.log")
     eight, capture = put(f"{room}/eight", eight_testers()), put(f"{room}/capture", traffic(random.Random(1), 8, 120))
     of_eight, frames_of_eight = run("bus", "--journal", eight, capture), run("bus", eight, capture)
-    slow = f"{TOP}/runs/bus/rule_slow_twice"
+    slow, fd = f"{TOP}/runs/bus/rule_slow_twice", whole(f"{TOP}/runs/fd.toml")
+    mixed, limits = ([whole(f"{TOP}/runs/bus/{it}/{part}.stdout") for part in ("bus", "journal")] for it in ("fd_mixed", "fd_limits"))
     for name, setup, given, flow in [
         ("the demo's logs", demo, [serial], grants_in(serial)),
         ("the demo's bus", demo, [journal], 0),
@@ -499,6 +500,8 @@ def whole_pages(room, page):
         ("eight testers", eight_testers(), [of_eight], 0),
         ("eight testers with their frames", eight_testers(), [frames_of_eight, of_eight], grants_in(frames_of_eight)),
         ("answers that take their time", whole(f"{slow}/setup.toml"), [whole(f"{slow}/{it}.stdout") for it in ("bus", "journal")], 0),
+        ("a tester of CAN FD and a classic one", fd, mixed, 0),
+        ("messages of CAN FD", fd, limits, grants_in(limits[0])),
     ]:
         page.open(page_of(room, setup, *given), 1600, HIGH)
         found, want = drawn(page), {**in_text("".join(given)), "flow": flow}
@@ -538,6 +541,16 @@ def by_mouse(room, page):
     page.mouse("mouseMoved", *middle_of(page, "document.querySelectorAll('.line')[3]"))
     lit = page.ask(AFTER_DRAWING % "document.querySelectorAll('g.lit').length")
     told(lit == 1 and is_quiet(page), "the chart follows the journal", lit)
+
+
+def long_frames(room, page):
+    """A frame of more than 32 bytes opens to two lines."""
+    text = whole(f"{TOP}/runs/bus/fd_long/bus.stdout")
+    page.open(page_of(room, whole(f"{TOP}/runs/fd.toml"), text), 1400, 700)
+    page.ask("opened.add(0); show(); 0")
+    found = page.ask(AFTER_DRAWING % "[...document.querySelectorAll('text.frame')].map((it) => it.textContent.split(' ').pop())")
+    want = [frame[at : at + 64] for frame in re.findall("##1([0-9A-F]+)", text) for at in range(0, len(frame), 64)]
+    told(found == want and len(want) == 4 and is_quiet(page), "a frame of more than 32 bytes opens to two lines", found)
 
 
 def later(room, page):
@@ -675,7 +688,7 @@ def pages(room):
         print(f"view: Chromium can't be used here ({it}): the pages aren't opened", flush=True)
         return
     try:
-        for group in (whole_pages, frames_page, by_mouse, later, beside_page, not_sent, by_filter, hostile, long_page, pictures):
+        for group in (whole_pages, frames_page, by_mouse, long_frames, later, beside_page, not_sent, by_filter, hostile, long_page, pictures):
             group(room, page)
     finally:
         page.close()

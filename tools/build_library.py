@@ -117,7 +117,7 @@ def build_shared():
     at = kit()
     inputs = ["--whole-archive", STATIC, "--no-whole-archive", f"{at}/c/liblibc_c.a", f"{at}/toolchain/lib/libc.so.6"]
     limits = [f"--version-script={MAP}", "--gc-sections", "-z", "defs", "-z", "relro", "-z", "now"]
-    name = ["-soname", f"lib{NAME}.so.1", "--build-id=none", "--strip-all"]
+    name = ["-soname", f"lib{NAME}.so.2", "--build-id=none", "--strip-all"]
     made = run([f"{at}/toolchain/bin/ld.lld", "-shared", "-o", SHARED, *inputs, *limits, *name])
     return None if made.returncode == 0 else made.stdout
 

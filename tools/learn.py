@@ -2,13 +2,14 @@
 """Makes the setup by which the server answers as the unit in a recording did, and says of what it can't explain where it
 stands.
 
-    tools/learn.py [--pair REQUEST:RESPONSE[=NAME]].. [--interface NAME] [--varies] CAPTURE > unit.toml
+    tools/learn.py [--pair REQUEST:RESPONSE[:fd][=NAME]].. [--interface NAME] [--varies] CAPTURE > unit.toml
 
 Example:
     tools/learn.py --pair 7E0:7E8=workshop --pair 7A0:7A8=end_of_line demo/other_unit.log > unit.toml
 
 CAPTURE is a recording of `candump -L`, or, where python-can is installed, one of ASC, BLF, TRC, CSV or MF4. The testers are
-the pairs that are given, or those that are found. With `--interface` the frames of one interface count. With `--varies` an
+the pairs that are given, or those that are found. A pair of which a frame is one of CAN FD talks by that, and so does one
+that is given as REQUEST:RESPONSE:fd=NAME. With `--interface` the frames of one interface count. With `--varies` an
 identifier that was read with different values, and seeds that differ, aren't compared; without it their values come one
 after the other, round and round.
 
@@ -29,7 +30,7 @@ from typing import Iterable, Iterator, NoReturn, Optional
 
 sys.dont_write_bytecode = True
 sys.path.append(os.path.join(os.path.dirname(os.path.abspath(__file__)), "parts"))
-from learn_bus import MOST_TESTERS, Broken, Pair, Sending, functional_of, look, pair_of, pairs_of, sending_of
+from learn_bus import FUNCTIONAL, FUNCTIONAL_29, MOST_TESTERS, Broken, Pair, Sending, functional_of, look, pair_of, pairs_of, sending_of
 from learn_judge import AGREES, DIFFERS, NOTHING, Exchange, Judge, Program, Refused, Verdict
 from learn_model import learn_model
 from learn_rows import MOST_BYTES, Plan
@@ -108,7 +109,10 @@ def line_of(message) -> str:
     """A message of python-can as a line."""
     identifier = f"{message.arbitration_id:08X}" if message.is_extended_id else f"{message.arbitration_id:03X}"
     data = bytes(message.data).hex().upper()
-    rest = f"#R{message.dlc}" if message.is_remote_frame else f"##0{data}" if message.is_fd else f"#{data}"
+    flags = message.bitrate_switch | message.error_state_indicator << 1
+    # (a form may not keep which frames are of CAN FD: a longer one is)
+    is_fd = message.is_fd or len(message.data) > 8
+    rest = f"#R{message.dlc}" if message.is_remote_frame else f"##{flags:X}{data}" if is_fd else f"#{data}"
     us = round(message.timestamp * 1_000_000)
     channel = 0 if message.channel is None else message.channel
     name = f"can{channel}" if str(channel).isdigit() else "".join(str(channel).split()) or "can0"
@@ -220,14 +224,15 @@ def unit_of(path: str, given: list[Pair], words: argparse.Namespace, progress: P
     """What the frames tell of the unit, by the words of the command line. NoTester where there is none."""
     functional, interface = words.functional, words.interface
     sight = look(progress.through(path, 0, 0.12, "the testers"), interface)
-    pairs = testers_of(given, pairs_of(sight))
+    pairs = [sight.joined(it) for it in testers_of(given, pairs_of(sight))]
     if not pairs:
         raise NoTester
     narrow, wide = functional_of(sight, pairs), functional_of(sight, pairs, True)
     if functional is not None:
         narrow, wide = (functional, wide) if functional <= MOST_OF_11_BITS else (narrow, functional)
     sending = sending_of(progress.through(path, 0.12, 0.2, "how they send"), pairs, interface)
-    return Unit(pairs, narrow, sending, varies=words.varies, functional_29=wide)
+    is_all_fd = f"{narrow or FUNCTIONAL:03X}" in sight.by_fd, f"{wide or FUNCTIONAL_29:08X}" in sight.by_fd
+    return Unit(pairs, narrow, sending, varies=words.varies, functional_29=wide, is_all_fd=is_all_fd)
 
 
 def program() -> str:
@@ -257,7 +262,7 @@ class CommandLine(argparse.ArgumentParser):
 
 def arguments(given: Optional[list[str]]) -> argparse.Namespace:
     words = CommandLine(description=__doc__, formatter_class=argparse.RawDescriptionHelpFormatter)
-    words.add_argument("--pair", action="append", default=[], metavar="REQUEST:RESPONSE[=NAME]", help="a tester; may stand several times")
+    words.add_argument("--pair", action="append", default=[], metavar="REQUEST:RESPONSE[:fd][=NAME]", help="a tester; may stand several times")
     words.add_argument("--functional", type=identifier_of, metavar="ID", help="the functional identifier, in hex")
     words.add_argument("--interface", metavar="NAME", help="takes the frames of this interface alone")
     words.add_argument("--varies", action="store_true", help="values and seeds that change aren't compared")

@@ -22,15 +22,13 @@ sys.path.append(os.path.join(os.path.dirname(os.path.abspath(__file__)), "parts"
 from uds_compared import is_report, read_report
 from uds_names import service_name
 from uds_rules import pending
-from uds_run import Held, Session, Wrong, messages, read_run, read_setup, waits
+from uds_run import ONE_FRAME, Held, Session, Wrong, messages, read_run, read_setup, waits
 from uds_words import answer_words, changes, due_words, held_words, message_words, request_words, seconds
 from view_exchanges import exchanges_data, exchanges_text
 
 PAGE = os.path.join(os.path.dirname(os.path.abspath(__file__)), "parts", "view")
 KINDS = {"T": 0, "P": 1, "F": 2}
 OUTCOMES = {"passed": 0, "done": 1, "refused": 2, "suppressed": 3, "silent": 4, "empty": 5}
-# a message of more bytes has several frames
-ONE_FRAME = 7
 
 
 # ---- the text
@@ -86,7 +84,7 @@ class Words:
         self.places = {}
 
     def place(self, words, data=b""):
-        """Where the words stand, with the bytes of a message of several frames."""
+        """Where the words stand, with the bytes of a message of more than one classic frame."""
         return self.places.setdefault((words, data.hex().upper() if len(data) > ONE_FRAME else ""), len(self.places))
 
 
@@ -153,7 +151,8 @@ class Order:
         self.entries = run.entries
         self.long, self.last = {}, {}
         for at, entry in enumerate(run.entries):
-            if len(entry.request) > ONE_FRAME:
+            # (a functional one is never of several)
+            if entry.kind == "P" and len(entry.request) > ONE_FRAME:
                 self.long.setdefault(entry.place, []).append(at)
 
     def before(self, message, ahead):

@@ -1,4 +1,4 @@
-"""Tests of `uds_unit.bus` on a virtual bus, of the program, and of the fixtures. They want python-can, one of them scapy, and
+"""Tests of `uds_unit.bus` on a virtual bus, of the program, and of the fixtures. They want python-can, two of them scapy, and
 those of the fixtures pytest; a test that wants what isn't there is passed over."""
 import importlib.util
 import subprocess
@@ -108,6 +108,22 @@ class BusTests(unittest.TestCase):
             heard = self.near.recv(2)
         self.assertEqual((heard.arbitration_id, heard.is_extended_id), (0x18DAF110, True))
 
+    def test_fd(self) -> None:
+        from uds_unit.bus import UnitBus
+
+        # a unit whose testers are classic passes frames of CAN FD over
+        self.ask("021003", is_fd=True)
+        self.ask("023E00")
+        self.assertEqual(self.hear(), "7E8#027E00CCCCCCCCCC")
+        self.unit.stop()
+        with UnitBus(self.far, SETUP.read_bytes().replace(b"response = 0x7E8", b"response = 0x7E8\nfd = true\nfunctional = 0x7D0")):
+            # one of CAN FD to a classic tester is passed over, too
+            self.ask("021003", 0x7A0, is_fd=True)
+            self.ask("0322F190", is_fd=True)
+            heard = self.near.recv(2)
+        self.assertEqual((heard.is_fd, heard.bitrate_switch, heard.error_state_indicator), (True, True, False))
+        self.assertEqual((heard.arbitration_id, heard.data.hex()), (0x7E8, "001462f190" + 17 * "30" + "cccc"))
+
     def test_others_frames(self) -> None:
         self.near.send(self.Message(arbitration_id=0x18DA00F1, data=b"\x02\x10\x03", is_extended_id=True))
         self.near.send(self.Message(arbitration_id=0x7E0, is_extended_id=False, is_remote_frame=True, dlc=3))
@@ -125,6 +141,36 @@ class BusTests(unittest.TestCase):
         from scapy.contrib.automotive.uds import UDS, UDS_RDBI
 
         with CANSocket(bustype="virtual", channel=f"test_{self.id()}") as raw:
+            with ISOTPSocket(raw, tx_id=0x7E0, rx_id=0x7E8, basecls=UDS) as tester:
+                reply = tester.sr1(UDS() / UDS_RDBI(identifiers=[0xF190]), timeout=3, verbose=False)
+        self.assertEqual(bytes(reply), b"\x62\xF1\x90" + b"0" * 17)
+
+    @unittest.skipUnless(has("scapy"), "scapy isn't installed")
+    def test_scapy_by_fd(self) -> None:
+        from scapy.config import conf
+
+        conf.contribs["CANSocket"] = {"use-python-can": True}
+        conf.contribs["ISOTP"] = {"use-can-isotp-kernel-module": False}
+        from scapy.contrib.cansocket_python_can import CANSocket
+        from scapy.contrib.isotp import ISOTPSocket
+        from scapy.contrib.automotive.uds import UDS, UDS_RDBI
+        from scapy.layers.can import CANFD
+
+        from uds_unit.bus import UnitBus
+
+        def hear(frames: list[bytes], count: int) -> list[tuple[type, int, str]]:
+            asked = [CANFD(identifier=0x7E0, fd_flags="fd_frame+bit_rate_switch", data=it) for it in frames]
+            heard = raw.sniff(count=count, timeout=3, started_callback=lambda: [raw.send(it) for it in asked])
+            return [(type(it), int(it.fd_flags), it.data.hex()) for it in heard]
+
+        self.unit.stop()
+        setup = b"tx_dl = 12\n" + SETUP.read_bytes().replace(b"response = 0x7E8", b"response = 0x7E8\nfd = true\nfunctional = 0x7D0")
+        grant, refused = (CANFD, 5, "300000cccccccccc"), (CANFD, 5, "037f2231cccccccc")
+        with UnitBus(self.far, setup), CANSocket(bustype="virtual", channel=f"test_{self.id()}") as raw:
+            # a SingleFrame of 12 bytes, and a request of 65 bytes in frames of 64
+            self.assertEqual(hear([b"\0\x09\x22" + b"\xFF" * 9], 1), [refused])
+            self.assertEqual(hear([b"\x10\x41\x22" + b"\xFF" * 61, b"\x21\xFF\xFF\xFF"], 2), [grant, refused])
+            # its ISO-TP takes the length of an answer's frames from the first
             with ISOTPSocket(raw, tx_id=0x7E0, rx_id=0x7E8, basecls=UDS) as tester:
                 reply = tester.sr1(UDS() / UDS_RDBI(identifiers=[0xF190]), timeout=3, verbose=False)
         self.assertEqual(bytes(reply), b"\x62\xF1\x90" + b"0" * 17)

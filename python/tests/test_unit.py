@@ -13,6 +13,13 @@ WIDE = b"""tester = [
     { name = "B", request = 0x7E0, response = 0x7E8 },
 ]"""
 
+# one tester that talks by CAN FD, and one that doesn't
+LONG = b"""tester = [
+    { name = "A", request = 0x7E0, response = 0x7E8, functional = 0x7D0, fd = true },
+    { name = "B", request = 0x7A0, response = 0x7A8 },
+]
+did = [{ id = 0xF190, value = "3031323334353637383930313233343536" }]"""
+
 
 class UnitTests(unittest.TestCase):
     def setUp(self) -> None:
@@ -93,10 +100,27 @@ class UnitTests(unittest.TestCase):
     def test_no_frame(self) -> None:
         wrong = [(0x7E0, bytes(9), False), (0x800, b"", False), (0x20000000, b"", True), (-1, b"", False), (1 << 40, b"", False)]
         for id, data, extended in wrong:
-            with self.assertRaisesRegex(FrameFault, "no frame of classic CAN"):
+            with self.assertRaisesRegex(FrameFault, "no frame of CAN"):
                 self.unit.frame(9.0, id, data, extended=extended)
         self.assertEqual(self.unit.frame(0.0, 0x18DB33F1, EXTENDED, extended=True), [])
         self.assertEqual(self.unit.frame(0.0, 0x7E0, bytearray(EXTENDED))[0].time, 0.0)
+
+    def test_fd(self) -> None:
+        with Unit(LONG) as unit:
+            self.assertEqual((unit.fd_requests, unit.fd_flags), ({(0x7E0, False), (0x7D0, False)}, 1))
+            reply = bytes.fromhex("001462F190") + b"01234567890123456" + b"\xCC\xCC"
+            asked = bytes.fromhex("0322F190")
+            # the same identifier, and three that there aren't
+            long = bytes.fromhex("000922F190000100020003CC")
+            for data in (asked, long):
+                self.assertEqual(unit.frame(0.0, 0x7E0, data), [Frame(0.0, 0x7E8, reply, "A", fd=True)])
+            self.assertEqual([(len(it.data), it.fd) for it in unit.frame(0.0, 0x7A0, asked)], [(8, False)])
+            # what is too long for its tester only lets the time pass
+            self.assertEqual(unit.frame(1.0, 0x7A0, long), [])
+            self.assertEqual(unit.frame(0.0, 0x7E0, bytes.fromhex("023E00"))[0].time, 1.0)
+            with self.assertRaises(FrameFault):
+                unit.frame(9.0, 0x7E0, bytes(13))
+        self.assertEqual(self.unit.fd_requests, frozenset())
 
     def test_29_bits(self) -> None:
         with Unit(WIDE) as unit:

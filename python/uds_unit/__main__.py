@@ -12,6 +12,8 @@ def _arguments() -> argparse.ArgumentParser:
     parser.add_argument("--interface", required=True, help="python-can's interface, as socketcan, pcan, vector, kvaser, virtual")
     parser.add_argument("--channel", required=True, help="the channel, as can0 or PCAN_USBBUS1")
     parser.add_argument("--bitrate", type=int, help="the bit rate, where the interface takes one")
+    parser.add_argument("--fd", action="store_true", help="opens the bus for CAN FD, where a tester of the setup talks by it")
+    parser.add_argument("--data-bitrate", type=int, help="the bit rate of the bytes of CAN FD, where the interface takes one")
     parser.add_argument("--journal", metavar="FILE", help="writes the unit's journal at the end")
     parser.add_argument("--seconds", type=float, help="ends after so many seconds")
     parser.add_argument("setup", help="the setup, a TOML file")
@@ -28,7 +30,8 @@ def main(words: list[str] | None = None) -> int:
         return 1
     from .bus import UnitBus
 
-    more = {} if given.bitrate is None else {"bitrate": given.bitrate}
+    wanted = {"bitrate": given.bitrate, "data_bitrate": given.data_bitrate, "fd": given.fd or None}
+    more = {name: value for name, value in wanted.items() if value is not None}
     try:
         with can.Bus(interface=given.interface, channel=given.channel, **more) as bus:
             unit = UnitBus(bus, given.setup, journal=given.journal is not None)

@@ -142,14 +142,27 @@ class UnitBus:
         with self._lock:
             while (due := self._unit.due) is not None and due <= self._now():
                 self._send(self._unit.advance(due))
-            if heard is not None and _is_classic(heard):
+            if heard is not None and self._is_taken(heard):
                 self._send(self._unit.frame(self._now(), heard.arbitration_id, heard.data, extended=heard.is_extended_id))
 
     def _send(self, frames: list[Frame]) -> None:
         for frame in frames:
-            self.bus.send(can.Message(arbitration_id=frame.id, data=frame.data, is_extended_id=frame.extended))
+            self.bus.send(self._message(frame))
             self._late += max(self._now() - frame.time, 0.0)
 
+    def _message(self, frame: Frame) -> can.Message:
+        flags = self._unit.fd_flags if frame.fd else 0
+        return can.Message(
+            arbitration_id=frame.id,
+            data=frame.data,
+            is_extended_id=frame.extended,
+            is_fd=frame.fd,
+            bitrate_switch=bool(flags & 1),
+            error_state_indicator=bool(flags & 2),
+        )
 
-def _is_classic(message: can.Message) -> bool:
-    return not (message.is_error_frame or message.is_remote_frame or message.is_fd) and message.is_rx
+    def _is_taken(self, message: can.Message) -> bool:
+        """Whether the unit is given a message: data of the others, by CAN FD only where a tester asks so by its identifier."""
+        if message.is_error_frame or message.is_remote_frame or not message.is_rx:
+            return False
+        return not message.is_fd or (message.arbitration_id, message.is_extended_id) in self._unit.fd_requests

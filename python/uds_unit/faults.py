@@ -14,7 +14,7 @@ class ClosedFault(UnitFault):
 
 
 class FrameFault(UnitFault, ValueError):
-    """No frame of classic CAN has this identifier, or so many bytes. Nothing was taken."""
+    """No frame has this identifier, or so many bytes. Nothing was taken."""
 
 
 class MemoryFault(UnitFault, MemoryError):

@@ -20,7 +20,14 @@ class Handle(Structure):
 class Reply(Structure):
     """A frame that is due."""
 
-    _fields_ = [("at_us", c_uint64), ("id", c_uint32), ("tester", c_uint8), ("len", c_uint8), ("bytes", c_uint8 * 8)]
+    _fields_ = [
+        ("at_us", c_uint64),
+        ("id", c_uint32),
+        ("tester", c_uint8),
+        ("len", c_uint8),
+        ("fd", c_uint8),
+        ("bytes", c_uint8 * 64),
+    ]
 
 
 class State(Structure):
@@ -67,7 +74,7 @@ def places() -> Iterator[str]:
     for path in (here / NAME, top / "crates/uds_unit/out" / NAME, top / "release" / NAME):
         if path.exists():
             yield str(path)
-    yield "libuds_unit.so.1"
+    yield "libuds_unit.so.2"
 
 
 @functools.cache

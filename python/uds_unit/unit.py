@@ -2,7 +2,7 @@
 import os
 from collections.abc import Iterator, MutableMapping
 from ctypes import byref, c_size_t, c_uint16, c_uint64, create_string_buffer
-from typing import NamedTuple, Self
+from typing import Any, NamedTuple, Self
 
 from . import library, toml
 from .faults import ClosedFault, FrameFault, MemoryFault, SetupFault
@@ -13,6 +13,8 @@ SESSIONS = {1: "default", 2: "programming", 3: "extended", 4: "safety"}
 # bit 31 of an identifier says that it has 29 bits
 EXTENDED = 1 << 31
 LOW_29 = (1 << 29) - 1
+# the functional identifiers that a setup needn't tell (ISO 15765-4)
+FUNCTIONAL, FUNCTIONAL_29 = 0x7DF, 0x18DB33F1
 MICRO = 1_000_000
 NEVER = 2**64 - 1
 
@@ -25,15 +27,26 @@ class Frame(NamedTuple):
     id: int
     """Its identifier."""
     data: bytes
-    """Its bytes, 0 to 8."""
+    """Its bytes, up to 8, to a tester that talks by CAN FD up to 64."""
     tester: str
     """The name of the tester that it is for."""
     extended: bool = False
     """Whether its identifier has 29 bits."""
+    fd: bool = False
+    """Whether it is a frame of CAN FD, as all are to a tester with `fd = true`."""
 
 
 def _microseconds(time: float) -> int:
     return min(max(round(time * MICRO), 0), NEVER)
+
+
+def _fd_requests(setup: dict[str, Any]) -> Iterator[tuple[int, bool]]:
+    for tester in setup["tester"]:
+        if tester.get("fd", False):
+            extended = tester.get("extended", False)
+            functional = FUNCTIONAL_29 if extended else setup.get("functional", FUNCTIONAL)
+            yield tester["request"], extended
+            yield tester.get("functional", functional), extended
 
 
 class Unit:
@@ -52,8 +65,9 @@ class Unit:
         self._at = byref(self._handle)
         self._reply = Reply()
         self._reply_at = byref(self._reply)
-        # (looked up once, for they are called for each frame)
+        # (looked up once, for they are wanted for each frame)
         self._frame, self._next = self._library.uds_unit_frame, self._library.uds_unit_next
+        self._bytes = self._reply.bytes
         if isinstance(setup, bytes):
             config = setup
         else:
@@ -69,6 +83,10 @@ class Unit:
         tree = toml.loads(config.decode().removeprefix("\ufeff"))
         self.testers: tuple[str, ...] = tuple(tester["name"] for tester in tree["tester"])
         """The testers' names, in the order of the setup."""
+        self.fd_requests: frozenset[tuple[int, bool]] = frozenset(_fd_requests(tree))
+        """The identifiers by which testers ask by CAN FD, each with whether it has 29 bits."""
+        self.fd_flags: int = tree.get("fd_flags", 1)
+        """The flags of the frames of CAN FD that the unit sends: 1 is bit rate switch, 2 error state indicator."""
         self.codes: Codes = Codes(self)
         """The DTCs: a mapping from code to status."""
         self.values: Values = Values(self)
@@ -90,14 +108,16 @@ class Unit:
 
     def frame(self, time: float, id: int, data: bytes, *, extended: bool = False) -> list[Frame]:
         """Takes a frame of the bus at a moment in seconds, and returns the frames that are due up to then, in the bus's order.
-        An earlier moment is taken as the latest so far. `id` has 11 bits, or with `extended` 29 bits.
+        An earlier moment is taken as the latest so far. `id` has 11 bits, or with `extended` 29 bits. The frame has 0 to 8, 12,
+        16, 20, 24, 32, 48 or 64 bytes; one of more than 8 is of CAN FD, and only lets the time pass unless it is for a tester
+        with `fd = true`. A shorter one is taken whichever kind it is of.
 
-        Raises FrameFault where it is no frame of classic CAN; then nothing was taken.
+        Raises FrameFault where no frame has this identifier, or so many bytes; then nothing was taken.
         """
         if extended:
             id |= EXTENDED
         if not 0 <= id <= 0xFFFFFFFF:
-            raise FrameFault("no frame of classic CAN")
+            raise FrameFault("no frame of CAN")
         status = self._frame(self._at, _microseconds(time), id, bytes(data), len(data))
         if status != DONE:
             self._raise(status)
@@ -148,10 +168,11 @@ class Unit:
 
     def _due(self) -> list[Frame]:
         frames = []
-        reply, take = self._reply, self._next
+        reply, held, take = self._reply, self._bytes, self._next
         while take(self._at, self._reply_at) == DONE:
-            data, id = bytes(reply.bytes)[: reply.len], reply.id
-            frames.append(Frame(reply.at_us / MICRO, id & LOW_29, data, self.testers[reply.tester - 1], id >= EXTENDED))
+            data, id = bytes(held)[: reply.len], reply.id
+            tester = self.testers[reply.tester - 1]
+            frames.append(Frame(reply.at_us / MICRO, id & LOW_29, data, tester, id >= EXTENDED, reply.fd == 1))
         return frames
 
     def _check(self, status: int) -> None:
@@ -163,7 +184,7 @@ class Unit:
         if status == CLOSED:
             raise ClosedFault("the unit is closed")
         if status == NO_FRAME:
-            raise FrameFault("no frame of classic CAN")
+            raise FrameFault("no frame of CAN")
         raise MemoryFault("memory")
 
 

@@ -23,13 +23,18 @@ static struct uds_unit opened(const uint8_t *config, size_t len, bool with_journ
     return unit;
 }
 
-/* the next frame is this one */
-static bool is_next(struct uds_unit *unit, uint64_t at_us, uint32_t id, uint8_t tester, const char *bytes, uint8_t len) {
+/* the next frame is this one, of this kind */
+static bool is_next_of(struct uds_unit *unit, uint64_t at_us, uint32_t id, uint8_t tester, const char *bytes, uint8_t len, uint8_t fd) {
     struct uds_reply reply;
-    static const uint8_t zeros[8] = {0};
+    static const uint8_t zeros[64] = {0};
     memset(&reply, 0xFF, sizeof reply);
-    return uds_unit_next(unit, &reply) == UDS_DONE && reply.at_us == at_us && reply.id == id && reply.tester == tester
-           && reply.len == len && memcmp(reply.bytes, bytes, len) == 0 && memcmp(reply.bytes + len, zeros, 8 - len) == 0;
+    return uds_unit_next(unit, &reply) == UDS_DONE && reply.at_us == at_us && reply.id == id && reply.tester == tester && reply.fd == fd
+           && reply.len == len && memcmp(reply.bytes, bytes, len) == 0 && memcmp(reply.bytes + len, zeros, 64 - len) == 0;
+}
+
+/* the next frame is this classic one */
+static bool is_next(struct uds_unit *unit, uint64_t at_us, uint32_t id, uint8_t tester, const char *bytes, uint8_t len) {
+    return is_next_of(unit, at_us, id, tester, bytes, len, 0);
 }
 
 static bool is_drained(struct uds_unit *unit) {
@@ -102,6 +107,13 @@ static void test_frames(const uint8_t *config, size_t len) {
     told(is_next(&unit, 1100000, 0x7A8, 2, "\x03\x7F\x10\x21\xCC\xCC\xCC\xCC", 8), "busy");
     /* frames that are none, and frames of nobody */
     told(uds_unit_frame(&unit, 9000000, 0x7E0, bytes_of("\0\0\0\0\0\0\0\0\0"), 9) == UDS_NO_FRAME, "nine bytes");
+    static const uint8_t many[255] = {2, 0x10, 1};
+    for (size_t count = 9; count <= sizeof many; count++) {
+        const bool is_length = count == 12 || count == 16 || count == 20 || count == 24 || count == 32 || count == 48 || count == 64;
+        const uint64_t at_us = is_length ? 1100000 : 9000000;
+        told(uds_unit_frame(&unit, at_us, 0x7E0, many, count) == (is_length ? UDS_DONE : UDS_NO_FRAME), "more than eight bytes");
+    }
+    told(is_drained(&unit), "to a classic tester they are nothing");
     told(uds_unit_frame(&unit, 9000000, 0x800, bytes_of("\x02\x10\x03"), 3) == UDS_NO_FRAME, "12 bits");
     told(uds_unit_frame(&unit, 9000000, 0xFFFFFFFF, bytes_of("\x02\x10\x03"), 3) == UDS_NO_FRAME, "more than 29 bits");
     told(uds_unit_state(&unit, &state) == UDS_DONE && state.session == 3, "what is no frame takes no time");
@@ -229,6 +241,30 @@ static void test_29_bits(void) {
     uds_unit_close(&unit);
 }
 
+/* a tester that talks by CAN FD, and one that doesn't */
+static void test_fd(void) {
+    static const char config[] = "[[did]]\nid = 0xF190\nvalue = \"3031323334353637383930313233343536\"\n"
+                                 "[[tester]]\nname = \"A\"\nrequest = 0x7E0\nresponse = 0x7E8\nfd = true\nfunctional = 0x7D0\n"
+                                 "[[tester]]\nname = \"B\"\nrequest = 0x7A0\nresponse = 0x7A8\n";
+    static const char value[] = "\x00\x14\x62\xF1\x90" "01234567890123456\xCC\xCC", asked[] = "\x03\x22\xF1\x90";
+    /* the same identifier, and three that there aren't */
+    static const char more[] = "\x00\x09\x22\xF1\x90\x00\x01\x00\x02\x00\x03\xCC";
+    struct uds_unit unit = opened(bytes_of(config), strlen(config), false);
+    told(uds_unit_frame(&unit, 0, 0x7E0, bytes_of(asked), 4) == UDS_DONE, "a frame of four bytes, whichever kind it is of");
+    told(is_next_of(&unit, 0, 0x7E8, 1, value, 24, 1), "its reply in one frame of CAN FD");
+    told(uds_unit_frame(&unit, 1000, 0x7E0, bytes_of(more), 12) == UDS_DONE, "twelve bytes");
+    told(is_next_of(&unit, 1000, 0x7E8, 1, value, 24, 1), "the same reply");
+    told(uds_unit_frame(&unit, 2000, 0x7E0, bytes_of("\x02\x3E\x00"), 3) == UDS_DONE, "a request with a short reply");
+    told(is_next_of(&unit, 2000, 0x7E8, 1, "\x02\x7E\x00\xCC\xCC\xCC\xCC\xCC", 8, 1), "it is one of CAN FD, too");
+    told(uds_unit_frame(&unit, 3000, 0x7A0, bytes_of(more), 12) == UDS_DONE, "twelve bytes to a classic tester");
+    told(uds_unit_frame(&unit, 3000, 0x7DF, bytes_of(more), 12) == UDS_DONE, "and functional");
+    told(uds_unit_frame(&unit, 3000, 0x123, bytes_of(more), 12) == UDS_DONE, "and nobody's");
+    told(is_drained(&unit), "are nothing");
+    told(uds_unit_frame(&unit, 4000, 0x7A0, bytes_of("\x02\x3E\x00"), 3) == UDS_DONE, "a classic tester's");
+    told(is_next(&unit, 4000, 0x7A8, 2, "\x02\x7E\x00\xCC\xCC\xCC\xCC\xCC", 8), "has a classic reply");
+    uds_unit_close(&unit);
+}
+
 /* two units know nothing of each other */
 static void test_two(const uint8_t *config, size_t len) {
     struct uds_unit one = opened(config, len, false), other = opened(config, len, false);
@@ -253,6 +289,7 @@ int main(int argc, char **argv) {
     test_values(config, len);
     test_journal(config, len);
     test_29_bits();
+    test_fd();
     test_two(config, len);
     printf("%d passed, %d failed\n", passed, failed);
     return failed != 0 || passed == 0;

@@ -1,5 +1,6 @@
 /* Gives a unit the frames of standard input, a line each with the microseconds, the identifier and the bytes as hex, and
- * prints those that it sends: microseconds, tester, identifier, bytes. A line without an identifier lets time pass.
+ * prints those that it sends: microseconds, tester, identifier, 1 where it is of CAN FD, bytes. A line without an identifier
+ * lets time pass.
  * Usage: capture SETUP [rounds] < LINES. With rounds they are given so often, each time to a new unit, and nothing is
  * printed but the frames a second. */
 #define _POSIX_C_SOURCE 200809L
@@ -15,14 +16,14 @@ struct heard {
     uint32_t id;
     uint8_t len;
     bool is_frame;
-    uint8_t bytes[8];
+    uint8_t bytes[64];
 };
 
 static struct heard *heard;
 static size_t count;
 
 static void read_lines(void) {
-    char line[128];
+    char line[256];
     size_t room = 0;
     while (fgets(line, sizeof line, stdin)) {
         if (count == room) {
@@ -31,12 +32,12 @@ static void read_lines(void) {
             if (!heard) exit(2);
         }
         struct heard *h = &heard[count++];
-        char hex[32] = "";
+        char hex[132] = "";
         memset(h, 0, sizeof *h);
-        int read = sscanf(line, "%" SCNu64 " %" SCNx32 " %31s", &h->at_us, &h->id, hex);
+        int read = sscanf(line, "%" SCNu64 " %" SCNx32 " %131s", &h->at_us, &h->id, hex);
         h->is_frame = read >= 2;
         h->len = (uint8_t)(strlen(hex) / 2);
-        for (int i = 0; i < h->len && i < 8; i++) {
+        for (int i = 0; i < h->len && i < 64; i++) {
             unsigned byte = 0;
             sscanf(hex + 2 * i, "%2x", &byte);
             h->bytes[i] = (uint8_t)byte;
@@ -60,7 +61,7 @@ static uint64_t play(const uint8_t *config, size_t len, bool is_told) {
         while (uds_unit_next(&unit, &r) == UDS_DONE) {
             sent++;
             if (!is_told) continue;
-            printf("%" PRIu64 " %u %03" PRIX32 " ", r.at_us, r.tester, r.id);
+            printf("%" PRIu64 " %u %03" PRIX32 " %u ", r.at_us, r.tester, r.id, r.fd);
             for (int k = 0; k < r.len; k++) printf("%02X", r.bytes[k]);
             printf("\n");
         }

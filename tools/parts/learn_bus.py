@@ -2,7 +2,7 @@
 and its testers send their frames. For tools/learn.py; no part of what is proved."""
 import re
 from collections import Counter, defaultdict
-from dataclasses import dataclass, field
+from dataclasses import dataclass, field, replace
 from typing import Iterable, Iterator, Optional
 
 from uds_names import OTHERS, SERVICES
@@ -17,6 +17,9 @@ PAIR = re.compile(
     r"(?P<request>[0-9A-F]{3}|[0-9A-F]{8}):(?P<response>[0-9A-F]{3}|[0-9A-F]{8})(?P<fd>:fd)?(?:=(?P<name>[A-Za-z0-9_]{1,16}))?",
     re.IGNORECASE,
 )
+# how a SingleFrame or a FirstFrame begins, one of more than 8 bytes too; and how long the frames of a long message may be
+BEGINNING = "0[1-7]|00(?:0[89A-F]|[12][0-9A-F]|3[0-9A-E])|1[0-9A-F][0-9A-F]{2}"
+LENGTHS = (8, 12, 16, 20, 24, 32, 48, 64)
 REQUESTS = {f"{sid:02X}": f"{sid:02X}" for sid in [*SERVICES, *OTHERS]}
 POSITIVES = {f"{sid + 0x40:02X}": f"{sid:02X}" for sid in [*SERVICES, *OTHERS] if sid < 0xBF}
 # functional identifiers of ISO 15765-4
@@ -33,12 +36,13 @@ USUAL_RESPONSES = {*(f"{it:03X}" for it in range(0x7E8, 0x7F0)), *(f"18DAF1{it:0
 @dataclass(frozen=True)
 class Pair:
     """The identifiers of a tester's requests and of the unit's answers to it, and the tester's name. Of 29 bits where
-    `is_extended`."""
+    `is_extended`; they talk by CAN FD where `is_fd`."""
 
     request: int
     response: int
     is_extended: bool = False
     name: str = ""
+    is_fd: bool = False
 
     def texts(self) -> tuple[str, str]:
         """Its identifiers as lines have them."""
@@ -58,27 +62,27 @@ class Pair:
 
 
 def pair_of(text: str) -> Pair:
-    """The pair that the command line gives as REQUEST:RESPONSE=NAME. ValueError where it is none, and where it is one of
-    CAN FD (REQUEST:RESPONSE:fd), which a setup can't have."""
+    """The pair that the command line gives as REQUEST:RESPONSE=NAME, or as REQUEST:RESPONSE:fd=NAME. ValueError where it is
+    none."""
     found = PAIR.fullmatch(text)
     if not found or len(found["request"]) != len(found["response"]):
         raise ValueError(f"{text}: it is REQUEST:RESPONSE=NAME, with identifiers of 3 hex digits, or of 8, and a name of 1 to 16 letters, digits or _")
-    if found["fd"]:
-        raise ValueError(f"{text}: CAN FD can't be learned yet")
     request, response = found["request"], found["response"]
-    return Pair(int(request, 16), int(response, 16), len(request) == 8, found["name"] or "")
+    return Pair(int(request, 16), int(response, 16), len(request) == 8, found["name"] or "", bool(found["fd"]))
 
 
-def frames_of(blocks: Iterable[str], identifiers: str, data: str, interface: Optional[str] = None) -> Iterator[tuple[int, str, str]]:
-    """The classic frames in blocks of whole lines whose identifier and data fit these patterns, of one interface or of any:
-    each frame's moment in milliseconds, its identifier, and its data, as upper-case digits."""
+def frames_of(
+    blocks: Iterable[str], identifiers: str, data: str, interface: Optional[str] = None
+) -> Iterator[tuple[int, str, str, Optional[str]]]:
+    """The frames in blocks of whole lines whose identifier and data fit these patterns, of one interface or of any: each
+    frame's moment in milliseconds, its identifier and its data, as upper-case digits, and of CAN FD the digit of its flags."""
     name = r"\S+" if interface is None else re.escape(interface)
     # (a pattern that begins with letters is looked for more quickly than one that begins with a line's start)
-    pattern = re.compile(rf"\n\((\d{{1,12}})\.(\d{{3}})\d*\) +{name} +((?i:{identifiers}))#((?i:{data})(?:[0-9A-Fa-f]{{2}})*)")
+    pattern = re.compile(rf"\n\((\d{{1,12}})\.(\d{{3}})\d*\) +{name} +((?i:{identifiers}))#(?:#([0-9A-Fa-f]))?((?i:{data})(?:[0-9A-Fa-f]{{2}})*)")
     for block in blocks:
         for found in pattern.finditer("\n" + block):
-            seconds, parts, identifier, digits = found.groups()
-            yield int(seconds + parts), identifier.upper(), digits.upper()
+            seconds, parts, identifier, flags, digits = found.groups()
+            yield int(seconds + parts), identifier.upper(), digits.upper(), flags
 
 
 # ---- which identifiers belong together
@@ -86,31 +90,46 @@ def frames_of(blocks: Iterable[str], identifiers: str, data: str, interface: Opt
 
 @dataclass
 class Sight:
-    """What was seen of requests and answers: how often an identifier asked, how often another one answered it, and which
-    identifiers sent TesterPresent without wanting a reply."""
+    """What was seen of requests and answers: how often an identifier asked, how often another one answered it, which
+    identifiers sent TesterPresent without wanting a reply, and which ones sent frames of CAN FD."""
 
     asked: Counter = field(default_factory=Counter)
     answered: Counter = field(default_factory=Counter)
     present: Counter = field(default_factory=Counter)
+    by_fd: set[str] = field(default_factory=set)
+
+    def joined(self, pair: Pair) -> Pair:
+        """A pair that is one of CAN FD, too, where a frame of it was."""
+        return replace(pair, is_fd=pair.is_fd or not self.by_fd.isdisjoint(pair.texts()))
 
 
 def look(blocks: Iterable[str], interface: Optional[str] = None) -> Sight:
     """Looks at all frames that can be a SingleFrame, or the FirstFrame of an answer."""
     sight, recent = Sight(), defaultdict(dict)
-    for now, identifier, data in frames_of(blocks, "[0-9A-F]{3}|[0-9A-F]{8}", "0[1-7]|1[0-9A-F][0-9A-F]{2}", interface):
-        at = 2 if data[0] == "0" else 4
-        if at == 2 and len(data) < 2 + 2 * int(data[1]):
+    for now, identifier, data, flags in frames_of(blocks, "[0-9A-F]{3}|[0-9A-F]{8}", BEGINNING, interface):
+        at = message_at(data)
+        if not at:
             continue
+        if flags:
+            sight.by_fd.add(identifier)
         first = data[at : at + 2]
         if first in REQUESTS or (first in OBD_REQUESTS and identifier in USUAL_REQUESTS):
             sight.asked[identifier] += 1
             recent[first][identifier] = now
-            if data[2:6] == "3E80":
+            if data[at : at + 4] == "3E80":
                 sight.present[identifier] += 1
         asking = asked_by(recent.get(service_of(identifier, data[at:])), identifier, now)
         if asking:
             sight.answered[asking, identifier] += 1
     return sight
+
+
+def message_at(data: str) -> int:
+    """Where the message begins among the digits of a SingleFrame or a FirstFrame; 0 of a SingleFrame that hasn't all of it."""
+    if data[0] == "1":
+        return 4
+    at, size = (4, int(data[2:4], 16)) if data[:2] == "00" else (2, int(data[1]))
+    return at if len(data) >= at + 2 * size else 0
 
 
 def service_of(identifier: str, message: str) -> Optional[str]:
@@ -214,8 +233,8 @@ class Broken:
         elif is_let if wanted else kind == "2" and self.last.get(identifier, "2") != "2":
             self.first = self.first if self.count else begun
             self.count += 1
-        if kind == "1" and size == 8:
-            self.open[identifier] = now, length_of(data) - (6 if int(data[1:4], 16) else 2), 1, False
+        if kind == "1" and size in LENGTHS:
+            self.open[identifier] = now, length_of(data) - size + (2 if int(data[1:4], 16) else 6), 1, False
         self.last[identifier] = kind
 
     def let(self, identifier: str, data: str) -> None:
@@ -230,7 +249,8 @@ class Broken:
 class Sending:
     """How the unit and its testers send: the padding byte, None for none; block size and STmin of the unit's flow control;
     the longest request; the longest time within a request, and from an answer's FirstFrame to its flow control, in
-    milliseconds; and which messages of the unit are broken."""
+    milliseconds; which messages of the unit are broken; and of its frames of CAN FD the greatest length, the flags, and the
+    byte that fills those of more than 8 bytes, None where none was seen."""
 
     pad: Optional[int] = 0xCC
     block_size: int = 0
@@ -239,21 +259,28 @@ class Sending:
     n_cr: int = 0
     n_bs: int = 0
     broken: Broken = field(default_factory=Broken)
+    tx_dl: int = 8
+    flags: int = 1
+    fill: Optional[int] = None
 
 
 def sending_of(blocks: Iterable[str], pairs: list[Pair], interface: Optional[str] = None) -> Sending:
     """How the frames of these pairs are sent."""
-    found, fills, flows = Sending(), Counter(), Counter()
+    found, fills, flows, fd = Sending(), Counter(), Counter(), FdFrames()
     requests = dict(it.texts() for it in pairs)
-    responses = set(requests.values())
+    responses, by_fd = set(requests.values()), {text for it in pairs if it.is_fd for text in it.texts()}
     last, waits = {}, {}
-    for now, identifier, data in frames_of(blocks, "|".join([*requests, *responses]), "", interface):
+    for now, identifier, data, flags in frames_of(blocks, "|".join([*requests, *responses]), "", interface):
+        if flags and identifier not in by_fd:
+            continue
         kind = data[:1]
         if kind == "3" and identifier in requests:
             found.broken.let(requests[identifier], data)
         if identifier in responses:
             found.broken.take(now, identifier, data)
             count_filling(fills, data)
+            if flags:
+                fd.take(data, flags)
             if kind == "3" and len(data) >= 6:
                 flows[int(data[2:4], 16), int(data[4:6], 16)] += 1
             elif kind == "1":
@@ -267,7 +294,33 @@ def sending_of(blocks: Iterable[str], pairs: list[Pair], interface: Optional[str
             found.n_cr = max(found.n_cr, min(now - last[identifier], 60000))
             last[identifier] = now
     settle(found, fills, flows)
+    fd.settle(found)
+    if not fills and found.fill is not None:
+        # (where no short frame tells how these are padded)
+        found.pad = found.fill
     return found
+
+
+@dataclass
+class FdFrames:
+    """What was seen of the unit's frames of CAN FD: the greatest length, the flags, and what fills SingleFrames of more than
+    8 bytes."""
+
+    longest: int = 8
+    flags: Counter = field(default_factory=Counter)
+    fills: Counter = field(default_factory=Counter)
+
+    def take(self, data: str, flags: str) -> None:
+        self.longest = max(self.longest, len(data) // 2)
+        self.flags[int(flags, 16)] += 1
+        if len(data) > 16 and data[:2] == "00" and len(data) > 4 + 2 * int(data[2:4], 16):
+            self.fills[int(data[-2:], 16)] += 1
+
+    def settle(self, found: Sending) -> None:
+        """What was seen most often counts."""
+        found.tx_dl = next((it for it in LENGTHS if it >= self.longest), LENGTHS[-1])
+        found.flags = self.flags.most_common(1)[0][0] if self.flags else found.flags
+        found.fill = self.fills.most_common(1)[0][0] if self.fills else None
 
 
 def length_of(data: str) -> int:

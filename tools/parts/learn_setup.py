@@ -110,6 +110,8 @@ class Unit:
     varies: bool = False
     # the functional identifier of testers with 29 bits; None for the usual one
     functional_29: Optional[int] = None
+    # whether testers of CAN FD have the functional identifier of 11 bits, and that of 29, where classic ones can't have it, too
+    is_all_fd: tuple[bool, bool] = (False, False)
     # the requests of each tester, by its place, and the line that told P2 and P2*
     asked: dict[int, Seen] = field(default_factory=dict)
     told: int = 0
@@ -159,12 +161,22 @@ def unit_keys(unit: Unit) -> Iterator[str]:
     yield f"block_size = {sending.block_size}\nst_min = 0x{sending.st_min:02X}\n"
     if sending.longest > LONGEST:
         yield f"max_request = {min(sending.longest, 65535)}\n"
-    yield "pad = false\n" if sending.pad is None else f"pad_byte = 0x{sending.pad:02X}\n"
+    yield from filling(unit)
     yield f"availability = 0x{unit.availability:02X}\n"
     if unit.functional is not None or any(FUNCTIONAL in (it.request, it.response) for it in unit.pairs if not it.is_extended):
         yield f"functional = 0x{unit.functional if unit.functional is not None else free_identifier(unit):03X}\n"
     if unit.levels:
         yield f"attempts = {unit.attempts}\ndelay_ms = {unit.delay}\n"
+
+
+def filling(unit: Unit) -> Iterator[str]:
+    """How frames are filled, and of CAN FD how long they are, with their flags."""
+    sending = unit.sending
+    byte = sending.fill if sending.pad is None else sending.pad
+    yield "pad = false\n" if sending.pad is None else ""
+    yield f"pad_byte = 0x{byte:02X}\n" if byte is not None else ""
+    if any(it.is_fd for it in unit.pairs):
+        yield f"tx_dl = {sending.tx_dl}\nfd_flags = 0x{sending.flags:X}\n"
 
 
 def waits(sending: Sending) -> Iterator[str]:
@@ -175,10 +187,20 @@ def waits(sending: Sending) -> Iterator[str]:
         yield f"n_cr_ms = {min(sending.n_cr + 500, 60000)}\n"
 
 
-def free_identifier(unit: Unit) -> int:
-    """An identifier that no tester has."""
-    own = {it for pair in unit.pairs if not pair.is_extended for it in (pair.request, pair.response)}
-    return next(it for it in range(0x7FF, 0, -1) if it not in own)
+def free_identifier(unit: Unit, is_extended: bool = False) -> int:
+    """An identifier of 11 bits, or of 29, that no tester has."""
+    own = {it for pair in unit.pairs if pair.is_extended == is_extended for it in (pair.request, pair.response)}
+    usual, seen = (FUNCTIONAL_29, unit.functional_29) if is_extended else (FUNCTIONAL, unit.functional)
+    return next(it for it in range(0x1FFFFFFF if is_extended else 0x7FF, 0, -1) if it not in own | {usual, seen})
+
+
+def own_functional(unit: Unit, pair: Pair) -> Optional[int]:
+    """The functional identifier that a tester's table has; None where it needs none. A tester of CAN FD and a classic one can't
+    have the same: one of them has a free one."""
+    is_mixed = len({it.is_fd for it in unit.pairs if it.is_extended == pair.is_extended}) > 1
+    if is_mixed and pair.is_fd != unit.is_all_fd[pair.is_extended]:
+        return free_identifier(unit, pair.is_extended)
+    return unit.functional_29 if pair.is_extended and unit.functional_29 != FUNCTIONAL_29 else None
 
 
 def tester_tables(unit: Unit) -> Iterator[str]:
@@ -187,8 +209,10 @@ def tester_tables(unit: Unit) -> Iterator[str]:
         request, response = it.texts()
         yield f'[[tester]]\nname = "{it.name}"\n{"extended = true" + chr(10) if it.is_extended else ""}'
         yield f"request = 0x{request}\nresponse = 0x{response}\n"
-        if it.is_extended and unit.functional_29 not in (None, FUNCTIONAL_29):
-            yield f"functional = 0x{unit.functional_29:08X}\n"
+        functional = own_functional(unit, it)
+        if functional is not None:
+            yield f"functional = 0x{functional:0{len(request)}X}\n"
+        yield "fd = true\n" if it.is_fd else ""
 
 
 def did_tables(unit: Unit) -> Iterator[str]:

@@ -11,8 +11,12 @@ from uds_names import SERVICES
 from uds_rules import rows_of, times_of
 from uds_unit import toml
 
-REPLY_LINE = re.compile(r"\((\d{10,})\.(\d{3})000\) (\S+) ([0-9A-F]{3}|[0-9A-F]{8})#((?:[0-9A-F]{2}){0,8})")
+REPLY_LINE = re.compile(
+    r"\((\d{10,})\.(\d{3})000\) (\S+) ([0-9A-F]{3}|[0-9A-F]{8})(?:#((?:[0-9A-F]{2}){0,8})|##[0-9A-F]((?:[0-9A-F]{2}){0,64}))"
+)
 ENTRY = re.compile(r"(?:(\d+) )?([1-8]) (?:T (\d+)|([PF]) ((?:[0-9A-F]{2})+) (-|(?:[0-9A-F]{2})+))")
+# a message of more bytes has several classic frames
+ONE_FRAME = 7
 END = re.compile(r"session (default|programming|extended|safety|[0-9A-F]{2})|holder \S+|code [0-9A-F]{6} [0-9A-F]{2}|entries \d+")
 
 
@@ -111,10 +115,10 @@ def read_entry(found, version, clocks):
 
 def read_frame(found, setup):
     """The frame of a reply line that matched."""
-    seconds, parts, name, identifier, data = found.groups()
+    seconds, parts, name, identifier, data, fd_data = found.groups()
     if name not in setup.names or setup.responses[setup.names.index(name)] != identifier:
         raise Wrong(f"no tester of the setup is {name} with the response identifier {identifier}")
-    return Frame(int(seconds) * 1000 + int(parts), setup.names.index(name), bytes.fromhex(data))
+    return Frame(int(seconds) * 1000 + int(parts), setup.names.index(name), bytes.fromhex(data or fd_data or ""))
 
 
 class Reader:
@@ -194,12 +198,15 @@ class Message:
 
 
 def first_of(frame):
-    """The message that begins with the frame, or None where the frame begins none."""
+    """The message that begins with the frame, or None where the frame begins none. In a frame of more than 8 bytes its length
+    stands behind 00."""
     data = frame.data
     high = data[0] >> 4 if data else None
     if high == 0 and 0 < data[0] < 8:
         return Message(frame.place, [frame], data[1 : 1 + data[0]], data[0])
-    if high == 1 and len(data) == 8:
+    if high == 0 and len(data) > 8 and data[0] == 0 and data[1] > ONE_FRAME:
+        return Message(frame.place, [frame], data[2 : 2 + data[1]], data[1])
+    if high == 1 and len(data) >= 8:
         short = (data[0] & 15) << 8 | data[1]
         length, carried = (short, data[2:]) if short else (int.from_bytes(data[2:6], "big"), data[6:])
         return Message(frame.place, [frame], carried[:length], length)

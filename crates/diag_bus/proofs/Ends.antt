@@ -2,7 +2,9 @@
 use Rattle.std.proofs.Common.{◌≡◌, ℕ, Option, Some, None, List, [], ◌∷◌, ◌++◌, length, map, inl, inr, refl, ap, ap₂, subst, sym, ◌∙◌, arith}
 use Rattle.std.proofs.lemmas.List.{append-nil, length-map}
 use Rattle.std.proofs.lemmas.Option.{none-some}
-use Rattle.std.specs.Prelude.{slice_get}
+use Rattle.std.specs.Borrow.{Bor}
+use Rattle.std.specs.Prelude.{option_copied, slice_get}
+use Rattle.std.specs.Slice.{IsItemAt}
 use Rattle.diag_bus.specs.Comparing.{Apart, Compares, OneIsEmpty, Part}
 use Rattle.diag_bus.specs.Verdict.{bytes_of, difference}
 use Rattle.diag_bus.specs.declared.comparing.Comparison.{Comparison}
@@ -14,6 +16,13 @@ use Rattle.diag_bus.proofs.Apart.{difference-both, differs_by}
 pub first_of : {X : Type 0} (xs : List X) (x : X) → slice_get xs 0 ≡ Some x → (rest : List X) × (xs ≡ x ∷ rest)
 first_of [] x at = absurd (none-some x at)
 first_of (y ∷ xs) x at = let same : y ≡ x = cc in (xs, ap (λ z. z ∷ xs) same)
+
+-- what a list lends at its front is the first
+pub front_is : {X : Type 0} (xs : List X) (r : Option (Bor X)) → IsItemAt xs 0 r → option_copied r ≡ slice_get xs 0
+front_is [] None h = refl
+front_is [] (Some x) h = absurd (omega (arith, h.3.0))
+front_is (y ∷ xs) None h = absurd (omega (arith, h.3))
+front_is (y ∷ xs) (Some x) h = ap Some h.1
 
 at_seam : {X : Type 0} (xs ys : List X) → slice_get (xs ++ ys) (length xs) ≡ slice_get ys 0
 at_seam [] ys = refl

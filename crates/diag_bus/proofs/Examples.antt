@@ -65,6 +65,33 @@ wide_fault : bus_events (codes "(0.000000) can0 18DA10F2#zz\n(0.000000) can0 18D
 unfolding hex_on_literals
 wide_fault = refl
 
+-- ---- CAN FD: A goes by it, and B doesn't, whose frames of CAN FD are passed over
+
+abbrev pub fd_tester : RawSetup
+fd_tester = record two_testers {
+  testers = record (tester (codes "A") 0x7E0 0x7E8) { fd = true; functional = Some 0x7DE } ∷ tester (codes "B") 0x7E1 0x7E9 ∷ [];
+}
+
+abbrev fd_capture : List ℕ
+fd_capture =
+    codes "(0.000000) can0 7E0##1021003\n"
+    ++ codes "(0.000000) can0 7E1##1zz\n"
+    ++ codes "(0.000000) can0 7E0##0000A2EF19001020304050607\n"
+    ++ codes "(0.000000) can0 7DE##0023E00\n"
+    ++ codes "(0.000000) can0 7E1#021003\n"
+
+fd_events : bus_events fd_capture fd_tester ≡ Ok (
+    (1, enter)
+    ∷ (1, Physical (0x00 ∷ 0x0A ∷ 0x2E ∷ 0xF1 ∷ 0x90 ∷ 0x01 ∷ 0x02 ∷ 0x03 ∷ 0x04 ∷ 0x05 ∷ 0x06 ∷ 0x07 ∷ []))
+    ∷ (1, Functional (0x02 ∷ 0x3E ∷ 0x00 ∷ [])) ∷ (2, enter) ∷ [])
+unfolding hex_on_literals
+fd_events = refl
+
+-- an ill one of A's is a fault
+fd_fault : bus_events (codes "(0.000000) can0 7E1##1zz\n(0.000000) can0 7E8##1zz\n") fd_tester ≡ Err (2, Line BadLine)
+unfolding hex_on_literals
+fd_fault = refl
+
 -- ---- the first fault, by its line
 
 fault : bus_events (codes "(100.000000) can0 7E0#021003\n\ntick 0\nwrong\n") two_testers ≡ Err (3, Line BadTick)

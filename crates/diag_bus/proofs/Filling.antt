@@ -1,5 +1,5 @@
 -- Where the testers' lists have frames, and what a line writes that draws one.
-use Rattle.std.proofs.Common.{◌≡◌, ◌≢◌, ◌≤◌, ◌<◌, min, ℕ, zero, suc, ◌+◌, ◌-◌, Bool, true, false, Option, None, Some, Vec, Global, vec_len, List, [], ◌∷◌, ◌++◌, length, map, get_or, refl, ap, ap₂, sym, subst, ◌∙◌, arith, inl, inr}
+use Rattle.std.proofs.Common.{◌≡◌, ◌≢◌, ◌≤◌, ◌<◌, min, ℕ, zero, suc, ◌+◌, ◌-◌, Bool, true, false, Option, None, Some, List, [], ◌∷◌, ◌++◌, length, map, get_or, refl, ap, ap₂, sym, subst, ◌∙◌, arith, inl, inr}
 use Rattle.std.proofs.Math.Seq.{map-set_same}
 use Rattle.std.proofs.lemmas.Bool.{eqb-true}
 use Rattle.std.proofs.lemmas.List.{append-nil, get_or-map, length-map, length-set, map-set}
@@ -9,7 +9,7 @@ use Rattle.std.specs.List.Sorted.{IsNonDecreasingBy}
 use Rattle.std.specs.Option.{option_map}
 use Rattle.std.proofs.lemmas.Option.{none-some, slice_get-map}
 use Rattle.diag_can.specs.declared.frame.Event.{Event}
-use Rattle.diag_pdu.proofs.Lists.{length-zero}
+use Rattle.diag_tp.specs.SentFrames.{SentList}
 use Rattle.diag_tp.specs.declared.sent.Sent.{Sent}
 use Rattle.diag_setup.specs.Rows.{in_order}
 use Rattle.diag_setup.specs.declared.raw.RawSetup.{RawSetup}
@@ -25,7 +25,7 @@ use Rattle.diag_bus.specs.Text.{drawn_for, drawn_text, gathered, line_of, own_te
 use Rattle.diag_bus.specs.declared.clock.Start.{Start}
 use Rattle.diag_bus.specs.declared.filled.Filled.{Filled}
 use Rattle.diag_bus.specs.declared.filled.Filled.TheVariants.{Nowhere, At, Anywhere}
-use Rattle.diag_bus.specs.declared.writing.Drawn.{Drawn}
+use Rattle.diag_bus.specs.Drawn.{Drawn}
 use Rattle.diag_bus.proofs.Order.{in_order_is}
 
 -- frames were added to one list
@@ -64,9 +64,6 @@ filled_after filled new lists new_lists i frames false within set is none h =
     subst (λ (f : Filled). AreFilled f new_lists) (sym is) (subst (AreFilled (filled_at filled i)) (sym set) (filled_more filled lists i frames within h))
 
 -- ---- one tester's list in a line
-
-none_in : (list : Vec Sent Global) → (vec_len list == 0) ≡ true → list.items ≡ []
-none_in list h = length-zero list.items (omega (arith, eqb-true (vec_len list) 0 h, list.ok.0))
 
 pub ports_moved : (old new : ServerView) (who : ℕ) (e : Event) (asked : Option Entry) (more : List Sent)
     → Settled (server_of old) (server_of new) who e asked more → length new.ports ≡ length old.ports
@@ -114,29 +111,29 @@ rest_after old new who e asked more rest q rest' settled is least known =
     omega (arith, least, known, here, most, now)
 
 -- frames were added to the list at this index
-pub shape_after : (old new : Node) (i : ℕ) (list : Vec Sent Global) (is_empty : Bool) → length new.server.ports ≡ length old.server.ports
+pub shape_after : (old new : Node) (i : ℕ) (list : SentList) (is_empty : Bool) → length new.server.ports ≡ length old.server.ports
     → i < length old.drawn.lists.items
     → new.drawn.lists.items ≡ slice_set old.drawn.lists.items i list
-    → new.drawn.filled ≡ (if is_empty then old.drawn.filled else filled_at old.drawn.filled i) → is_empty ≡ (vec_len list == 0)
+    → new.drawn.filled ≡ (if is_empty then old.drawn.filled else filled_at old.drawn.filled i) → (is_empty ≡ true → list.items ≡ [])
     → (IsRest old.server old.rest → IsRest new.server new.rest) → SameShape old new
-shape_after old new i list is_empty ports within set filled tested rest =
-    let items = λ (f : Vec Sent Global). f.items in
+shape_after old new i list is_empty ports within set filled none rest =
+    let items = λ (f : SentList). f.items in
     let lists : lists_of new.drawn ≡ slice_set (lists_of old.drawn) i list.items = ap (map items) set ∙ map-set items old.drawn.lists.items i list in
     record {
       ports = ports;
       lists = ap length set ∙ length-set old.drawn.lists.items i list;
       filled = filled_after old.drawn.filled new.drawn.filled (lists_of old.drawn) (lists_of new.drawn) i list.items is_empty
-          (omega (arith, within, length-map old.drawn.lists.items items)) lists filled (λ e. none_in list (sym tested ∙ e));
+          (omega (arith, within, length-map old.drawn.lists.items items)) lists filled none;
       rest = rest;
     }
 
 -- the list at this index is as it was
-pub shape_same : (old new : Node) (i : ℕ) (list before : Vec Sent Global) → length new.server.ports ≡ length old.server.ports
+pub shape_same : (old new : Node) (i : ℕ) (list before : SentList) → length new.server.ports ≡ length old.server.ports
     → new.drawn.lists.items ≡ slice_set old.drawn.lists.items i list
     → before ≡ get_or old.drawn.lists.items i before → list.items ≡ before.items → new.drawn.filled ≡ old.drawn.filled
     → (IsRest old.server old.rest → IsRest new.server new.rest) → SameShape old new
 shape_same old new i list before ports set was same filled rest =
-    let items = λ (f : Vec Sent Global). f.items in
+    let items = λ (f : SentList). f.items in
     let lists : lists_of new.drawn ≡ lists_of old.drawn = ap (map items) set ∙ map-set_same items old.drawn.lists.items i list before (same ∙ ap items was) in
     record {
       ports = ports;
@@ -182,11 +179,11 @@ lines_drawn f t [] = refl
 lines_drawn f t (sent ∷ frames) = ap (λ w. f (drawn_for t sent) ++ w) (lines_drawn f t frames)
 
 -- and one that draws frames of one tester, none earlier than the one before it, writes their lines as they stand
-pub own_written : (setup : RawSetup) (start : Option Start) (i : ℕ) (drawn : List (Vec Sent Global)) (list : Vec Sent Global)
+pub own_written : (setup : RawSetup) (start : Option Start) (i : ℕ) (drawn : List SentList) (list : SentList)
     → slice_get drawn i ≡ Some list → IsNonDecreasingBy (λ f. f.at) list.items → AreFilled (At i) (map (λ f. f.items) drawn)
     → own_text setup start i list.items ≡ drawn_text setup start (map (λ f. f.items) drawn)
 own_written setup start i drawn list at up filled =
-    let items = λ (f : Vec Sent Global). f.items in
+    let items = λ (f : SentList). f.items in
     let place : 1 + i ≡ i + 1 = omega arith in
     let own = map (drawn_for (i + 1)) list.items in
     let one : gathered 1 (map items drawn) ≡ own =

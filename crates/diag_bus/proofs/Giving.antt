@@ -1,11 +1,12 @@
 -- A node whose server was given an event of one tester.
-use Rattle.std.proofs.Common.{◌≡◌, ◌<◌, ◌≤◌, ℕ, ◌+◌, ◌-◌, Bool, Option, Some, None, Vec, Global, vec_len, List, [], ◌∷◌, ◌++◌, get_or, length, map, refl, ap, subst, sym, ◌∙◌, arith}
+use Rattle.std.proofs.Common.{◌≡◌, ◌<◌, ◌≤◌, ℕ, ◌+◌, ◌-◌, Bool, Option, Some, None, true, List, [], ◌∷◌, ◌++◌, get_or, length, map, refl, ap, subst, sym, ◌∙◌, arith}
 use Rattle.std.proofs.lemmas.List.{append-nil, map-set}
 use Rattle.std.proofs.lemmas.Option.{slice_get_read, slice_get-map}
-use Rattle.std.specs.Prelude.{◌==◌, IfSome, if◌then◌else◌, slice_get, slice_set}
+use Rattle.std.specs.Prelude.{IfSome, if◌then◌else◌, slice_get, slice_set}
 use Rattle.std.specs.Option.{option_map, option_to_list}
 use Rattle.std.specs.Vec.{with_item}
 use Rattle.diag_can.specs.declared.frame.Event.{Event}
+use Rattle.diag_tp.specs.SentFrames.{SentList}
 use Rattle.diag_tp.specs.declared.sent.Sent.{Sent}
 use Rattle.diag_setup.specs.declared.raw.RawSetup.{RawSetup}
 use Rattle.diag_ecu.specs.State.{State, opening}
@@ -24,7 +25,7 @@ use Rattle.diag_bus.proofs.Filling.{ports_moved, ports_same, rest_stays, shape_a
 use Rattle.diag_bus.proofs.Paces.{sent_one}
 
 -- the node with this list at an index
-abbrev pub node_with : Node → ServerView → ℕ → Vec Sent Global → Filled → ℕ → Node
+abbrev pub node_with : Node → ServerView → ℕ → SentList → Filled → ℕ → Node
 node_with old server i list filled rest = record {
   server = server;
   drawn = record { lists = with_item old.drawn.lists i list; filled = filled };
@@ -32,13 +33,13 @@ node_with old server i list filled rest = record {
 }
 
 -- the list of the tester `who` stands at its index i in the line
-pub record IsListAt (old : Node) (who i : ℕ) (list : Vec Sent Global) : Type 0 where
+pub record IsListAt (old : Node) (who i : ℕ) (list : SentList) : Type 0 where
   pub is : who ≡ i + 1
   pub within : i < length old.drawn.lists.items
   pub read : list ≡ get_or old.drawn.lists.items i list
 
 -- the tester's list stands where it was read
-pub list_at : (old : Node) {who i : ℕ} {list : Vec Sent Global} → who ≤ length old.server.ports → length old.drawn.lists.items ≡ length old.server.ports
+pub list_at : (old : Node) {who i : ℕ} {list : SentList} → who ≤ length old.server.ports → length old.drawn.lists.items ≡ length old.server.ports
     → who ≡ i + 1 → list ≡ get_or old.drawn.lists.items i list → IsListAt old who i list
 list_at old in_setup lists is read = record { is = is; within = omega (arith, in_setup, lists, is); read = read }
 
@@ -77,7 +78,7 @@ told took setup server M sink sink' past J K now (Some k) served run clock enter
     after_append s (a ∷ A) B = after_append (after_step s a.who a.step) A B
 
 -- a node with another list in its place
-module _ {old : Node} {who i : ℕ} {list : Vec Sent Global} (here : IsListAt old who i list) where
+module _ {old : Node} {who i : ℕ} {list : SentList} (here : IsListAt old who i list) where
   -- the frames that were drawn
   found : slice_get (lists_of old.drawn) i ≡ Some list.items
   found =
@@ -86,20 +87,20 @@ module _ {old : Node} {who i : ℕ} {list : Vec Sent Global} (here : IsListAt ol
       ∙ ap (option_map (λ f. f.items)) (slice_get_read drawn (length drawn) i list refl here.within here.read)
 
   -- and those with more behind them
-  grown : (list' : Vec Sent Global) (more : List Sent) → list'.items ≡ list.items ++ more
+  grown : (list' : SentList) (more : List Sent) → list'.items ≡ list.items ++ more
       → map (λ f. f.items) (slice_set old.drawn.lists.items i list') ≡ slice_set (lists_of old.drawn) i (list.items ++ more)
   grown list' more is =
       map-set (λ f. f.items) old.drawn.lists.items i list' ∙ ap (λ (w : List Sent). slice_set (lists_of old.drawn) i w) is
 
   -- the shape that it had, where the event was refused
-  pub shape_refused : (server : ServerView) (list' : Vec Sent Global) → server_of server ≡ server_of old.server
+  pub shape_refused : (server : ServerView) (list' : SentList) → server_of server ≡ server_of old.server
       → list'.items ≡ list.items → SameShape old (node_with old server i list' old.drawn.filled old.rest)
   shape_refused server list' same kept =
       shape_same old (node_with old server i list' old.drawn.filled old.rest) i list' list (ports_same old.server server same) refl here.read kept refl
       (rest_stays old.server server old.rest same)
 
 -- a node in which the server took the event
-module _ {old : Node} {who i : ℕ} {list : Vec Sent Global} (here : IsListAt old who i list) (server : ServerView) (list' : Vec Sent Global)
+module _ {old : Node} {who i : ℕ} {list : SentList} (here : IsListAt old who i list) (server : ServerView) (list' : SentList)
     (filled : Filled) (rest : ℕ) {e : Event} {asked : Option Entry} {more : List Sent}
     (settled : Settled (server_of old.server) (server_of server) who e asked more) where
   -- its entry is entered with what the tester's clock told, and the frames that the server handed out are drawn
@@ -124,8 +125,8 @@ module _ {old : Node} {who i : ℕ} {list : Vec Sent Global} (here : IsListAt ol
       (grown here list' more grew)
 
   -- it has the shape that it had
-  pub shape_one : (is_empty : Bool) → filled ≡ (if is_empty then old.drawn.filled else filled_at old.drawn.filled i) → is_empty ≡ (vec_len list' == 0)
+  pub shape_one : (is_empty : Bool) → filled ≡ (if is_empty then old.drawn.filled else filled_at old.drawn.filled i) → (is_empty ≡ true → list'.items ≡ [])
       → (IsRest old.server old.rest → IsRest server rest) → SameShape old (node_with old server i list' filled rest)
-  shape_one is_empty fill tested known =
+  shape_one is_empty fill none known =
       shape_after old (node_with old server i list' filled rest) i list' is_empty (ports_moved old.server server who e asked more settled)
-      here.within refl fill tested known
+      here.within refl fill none known

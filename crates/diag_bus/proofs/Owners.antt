@@ -79,9 +79,12 @@ pub ids_once : (setup : RawSetup) → fault_of setup ≡ None
     → (has_repeat itself (can_ids setup.testers) ≡ false) × (list_any (asks_by (can_ids setup.testers) setup.functional) setup.testers ≡ false)
 ids_once setup well =
     let none : NoneHold (faults setup) = none_hold (faults setup) well in
-    or_parts (has_repeat itself (can_ids setup.testers)) (list_any (asks_by (can_ids setup.testers) setup.functional) setup.testers)
+    first_two (has_repeat itself (can_ids setup.testers)) (list_any (asks_by (can_ids setup.testers) setup.functional) setup.testers) _
     (second (has_repeated_name setup.testers) (has_repeated_id setup.testers setup.functional) _ _ _ _ none.1.1.0)
   where
+    first_two : (a b c : Bool) → (a || b || c) ≡ false → (a ≡ false) × (b ≡ false)
+    first_two a b c h = or_parts a b (or_parts (a || b) c h).0
+
     second : (a b c d e f : Bool) → (a || b || c || d || e || f) ≡ false → b ≡ false
     second true b c d e f h = cc
     second false true c d e f h = cc

@@ -1,5 +1,5 @@
 -- A recording with a line more, of all testers.
-use Rattle.std.proofs.Common.{◌≡◌, ◌≢◌, ◌<◌, ◌≤◌, Bool, true, false, ℕ, zero, suc, ◌+◌, ◌-◌, Option, Some, None, Ok, List, [], ◌∷◌, ◌++◌, length, map, inl, inr, refl, ap, subst, sym, ◌∙◌, append_assoc, arith}
+use Rattle.std.proofs.Common.{◌≡◌, ◌≢◌, ◌<◌, ◌≤◌, Bool, true, false, ℕ, zero, suc, ◌+◌, ◌-◌, Option, Some, None, Ok, List, [], ◌∷◌, ◌++◌, length, map, take, inl, inr, refl, ap, subst, sym, ◌∙◌, append_assoc, arith}
 use Rattle.std.proofs.lemmas.Bool.{eq-eqb, ne_eqb}
 use Rattle.std.proofs.lemmas.List.{append-nil, map-append, length-append, length-set}
 use Rattle.std.proofs.lemmas.List.Elements.{filter-append}
@@ -26,6 +26,7 @@ use Rattle.diag_bus.specs.declared.comparing.Comparisons.{Comparisons}
 use Rattle.diag_bus.specs.declared.filled.Filled.TheVariants.{At, Nowhere}
 use Rattle.diag_bus.specs.declared.verdict.Recorded.{Recorded}
 use Rattle.diag_bus.proofs.Nodes.{found_at}
+use Rattle.diag_bus.proofs.Texts.{taken_more}
 use Rattle.diag_world.proofs.Waiting.{get_set_other}
 
 -- ---- the recording of one tester
@@ -110,6 +111,27 @@ expects_none own frames none recorded expected h =
 -- an empty list has none
 pub expects_empty : (own : Comparison) (frames : List Sent) → frames ≡ [] → Expects own own (expected_of frames)
 expects_empty own frames none = expects_none own (expected_of frames) (ap expected_of none)
+
+-- one frame more was taken, or left out as it says response pending
+module _ (old mid : Comparison) (frames : List Sent) (i : ℕ) (sent : Sent) (at : slice_get frames i ≡ Some sent)
+    (before : Expects old mid (expected_of (take i frames))) where
+  pub expects_next : (new : Comparison) (more : List (List ℕ)) → expected_of (sent ∷ []) ≡ more → Expects mid new more
+      → Expects old new (expected_of (take (i + 1) frames))
+  expects_next new more is took recorded expected h =
+      let next : expected_of (take (i + 1) frames) ≡ expected_of (take i frames) ++ more =
+      ap expected_of (taken_more frames i sent at) ∙ (expected_more (take i frames) (sent ∷ []) ∙ ap (λ w. expected_of (take i frames) ++ w) is) in
+      subst (λ (fs : List (List ℕ)). Compares new recorded (expected ++ fs)) (sym next)
+      (subst (λ (e : List (List ℕ)). Compares new recorded e) (append_assoc expected (expected_of (take i frames)) more)
+      (took recorded (expected ++ expected_of (take i frames)) (before recorded expected h)))
+
+  pub expects_taken : (new : Comparison) → is_pending sent.frame.bytes ≡ false → Expects mid new (sent.frame.bytes ∷ [])
+      → Expects old new (expected_of (take (i + 1) frames))
+  expects_taken new shown took =
+      expects_next new (sent.frame.bytes ∷ []) (ap (λ (b : Bool). if not b then sent.frame.bytes ∷ [] else []) shown) took
+
+  pub expects_left : is_pending sent.frame.bytes ≡ true → Expects old mid (expected_of (take (i + 1) frames))
+  expects_left says =
+      expects_next mid [] (ap (λ (b : Bool). if not b then sent.frame.bytes ∷ [] else []) says) (expects_none mid [] refl)
 
 -- no list has any
 pub expects_nowhere : (drawn : List (List Sent)) (old : List Comparison) → AreFilled Nowhere drawn → EachExpects drawn old old

@@ -15,6 +15,7 @@ use Rattle.diag_can.specs.declared.bus_line.BusLine.TheVariants.{Empty, Ticks, S
 use Rattle.diag_can.specs.declared.fault.LineFault.{LineFault}
 use Rattle.diag_can.specs.declared.fault.LineFault.TheVariants.{BadLine, BadTick}
 use Rattle.diag_can.specs.declared.frame.Frame.{Frame}
+use Rattle.diag_can.specs.declared.frame.KnownId.{KnownId}
 use Rattle.diag_can.proofs.Digits.{decimal_value-lt}
 use Rattle.diag_can.proofs.Runs.{run-passes}
 use Rattle.diag_bus.specs.Clock.{SaidBelow, moment_end}
@@ -110,7 +111,7 @@ frame_low r (Ok frame) said low h =
     let same : Stamped r.0 frame ≡ said = cc in
     subst (λ (s : BusLine). SaidBelow s moment_end) same low
 
-line_low : (known : List ℕ) (o : Option (ℕ × List ℕ)) (said : BusLine) → ((r : ℕ × List ℕ) → o ≡ Some r → r.0 < moment_end) → stamped_line known o ≡ Ok said
+line_low : (known : List KnownId) (o : Option (ℕ × List ℕ)) (said : BusLine) → ((r : ℕ × List ℕ) → o ≡ Some r → r.0 < moment_end) → stamped_line known o ≡ Ok said
     → SaidBelow said moment_end
 line_low known None said low h = absurd (clash h)
   where
@@ -127,7 +128,7 @@ tick_low (Some n) said h =
     let same : Ticks n ≡ said = cc in
     subst (λ (s : BusLine). SaidBelow s moment_end) same tt
 
-says_low : (known line : List ℕ) (said : BusLine) → line_says known line ≡ Ok said → SaidBelow said moment_end
+says_low : (known : List KnownId) (line : List ℕ) (said : BusLine) → line_says known line ≡ Ok said → SaidBelow said moment_end
 says_low known [] said h =
     let same : Empty ≡ said = cc in
     subst (λ (s : BusLine). SaidBelow s moment_end) same tt
@@ -138,7 +139,7 @@ says_low known (c ∷ line) said h = pick (is_time (c ∷ line)) h
     pick false h = line_low known (stamped_frame (c ∷ line)) said (λ r is. stamped_low (c ∷ line) r is) h
 
 -- the seconds of a stamp have at most twelve digits
-pub bus_line_low : (known line : List ℕ) (said : BusLine) → bus_line known line ≡ Ok said → SaidBelow said moment_end
+pub bus_line_low : (known : List KnownId) (line : List ℕ) (said : BusLine) → bus_line known line ≡ Ok said → SaidBelow said moment_end
 bus_line_low known line said h = pick (nat_lt 4096 (length line)) h
   where
     clash : Err BadLine ≡ Ok said → ⊥

@@ -12,7 +12,7 @@ use Rattle.diag_can.specs.BusLine.{bus_lines}
 use Rattle.diag_port.specs.Late.{pendings}
 use Rattle.diag_setup.specs.ExampleSetup.{two_testers}
 use Rattle.diag_bus.specs.Text.{text_of}
-use Rattle.diag_bus.proofs.Examples.{order}
+use Rattle.diag_bus.proofs.Examples.{fd_tester, order}
 
 abbrev written : List ℕ → List ℕ
 written text = text_of two_testers (bus_lines text)
@@ -67,3 +67,10 @@ bus_functional : written (codes "(100.000000) can0 7DF#023E80\n(100.001000) can0
     ++ codes "(0000000100.001000) B 7E9#101462F190544553\n"
 unfolding hex_on_literals digits wire sendings grant course cut open_at kind gives pendings
 bus_functional = refl
+
+-- A talks by CAN FD: its reply is one frame of 24 bytes, and its line has the unit's flags; B's are as ever
+bus_fd : text_of fd_tester (bus_lines (codes "(100.000000) can0 7E0##10322F190\n(100.001000) can0 7E1#0322F190\n")) ≡
+    codes "(0000000100.000000) A 7E8##1001462F1905445535456494E30313233343536373839CCCC\n"
+    ++ codes "(0000000100.001000) B 7E9#101462F190544553\n"
+unfolding hex_on_literals digits wire sendings grant course cut open_at kind gives pendings
+bus_fd = refl

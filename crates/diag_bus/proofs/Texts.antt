@@ -1,13 +1,13 @@
 -- What a line writes, from the testers' lists; and the text of one line more.
-use Rattle.std.proofs.Common.{◌≡◌, ◌≤◌, ◌<◌, ℕ, zero, suc, ◌+◌, take, Vec, Global, Option, Some, None, List, [], ◌∷◌, ◌++◌, get_or, length, map, drop, refl, ap, ap₂, subst, sym, ◌∙◌, append_assoc, arith}
+use Rattle.std.proofs.Common.{◌≡◌, ◌≤◌, ◌<◌, ℕ, zero, suc, ◌+◌, take, Option, Some, None, List, [], ◌∷◌, ◌++◌, get_or, length, map, drop, refl, ap, ap₂, subst, sym, ◌∙◌, append_assoc, arith}
 use Rattle.std.proofs.lemmas.List.{append-nil, flat_map_more, length-map, map-append, length-take-le, take_more}
-use Rattle.std.proofs.lemmas.Option.{slice_get_within, get_or_from_slice_get}
+use Rattle.std.proofs.lemmas.Option.{none-some, slice_get_within, get_or_from_slice_get}
 use Rattle.std.proofs.Math.Seq.{drop-append_seam}
 use Rattle.std.specs.List.{All, flat_map}
 use Rattle.std.proofs.lemmas.List.Elements.{All-append, All-map}
-use Rattle.diag_bus.specs.declared.writing.Drawn.{Drawn}
 use Rattle.std.specs.Prelude.{slice_get}
 use Rattle.diag_can.specs.declared.frame.Event.{Event}
+use Rattle.diag_tp.specs.SentFrames.{SentList}
 use Rattle.diag_tp.specs.declared.sent.Sent.{Sent}
 use Rattle.diag_pdu.specs.Cut.{counted_from}
 use Rattle.diag_setup.specs.declared.raw.RawSetup.{RawSetup}
@@ -15,9 +15,10 @@ use Rattle.diag_setup.specs.Rows.{in_order}
 use Rattle.diag_world.specs.Server.{ServerState}
 use Rattle.diag_bus.specs.Bus.{LineTaken}
 use Rattle.diag_bus.specs.Clock.{resumed}
+use Rattle.diag_bus.specs.Drawn.{Drawn}
 use Rattle.diag_bus.specs.Events.{events_of}
 use Rattle.diag_bus.specs.Node.{AreSentBy}
-use Rattle.diag_bus.specs.Text.{drawn_by, drawn_for, gathered, line_of, line_text, sent_of, start_after, text_after, text_of, time_of}
+use Rattle.diag_bus.specs.Text.{drawn_by, drawn_for, gathered, line_of, line_text, own_text, sent_of, start_after, text_after, text_of, time_of}
 use Rattle.diag_bus.specs.declared.clock.Clock.{Clock}
 use Rattle.diag_bus.specs.declared.clock.Start.{Start}
 
@@ -72,6 +73,11 @@ lines_more {X = X} f xs i x before text more within read is grown =
     grown ∙ (ap (λ w. w ++ f x) is ∙ (flat_map_more f before (take i xs) x
     ∙ ap (λ (ys : List X). before ++ flat_map f ys) (sym (take_more xs i x within ∙ ap (λ y. take i xs ++ y ∷ []) (sym read)))))
 
+-- one more of a list, by what is got
+pub taken_more : {X : Type 0} (xs : List X) (i : ℕ) (x : X) → slice_get xs i ≡ Some x → take (i + 1) xs ≡ take i xs ++ x ∷ []
+taken_more xs i x at =
+    take_more xs i x (slice_get_within xs i x at) ∙ ap (λ y. take i xs ++ y ∷ []) (get_or_from_slice_get xs i x x at)
+
 -- one list more
 gathered_more : (n : ℕ) (lists : List (List Sent)) (frames : List Sent)
     → gathered n (lists ++ frames ∷ []) ≡ gathered n lists ++ map (drawn_for (n + length lists)) frames
@@ -81,16 +87,16 @@ gathered_more n (first ∷ lists) frames =
     ap (λ w. map (drawn_for n) first ++ w) (gathered_more (n + 1) lists frames ∙ ap (λ t. gathered (n + 1) lists ++ map (drawn_for t) frames) next)
     ∙ sym (append_assoc (map (drawn_for n) first) (gathered (n + 1) lists) (map (drawn_for (n + length (first ∷ lists))) frames))
 
-pub gathered_next : (xs : List (Vec Sent Global)) (i who : ℕ) (x : Vec Sent Global) → slice_get xs i ≡ Some x → who ≡ i + 1
+pub gathered_next : (xs : List SentList) (i who : ℕ) (x : SentList) → slice_get xs i ≡ Some x → who ≡ i + 1
     → gathered 1 (map (λ f. f.items) (take (i + 1) xs)) ≡ gathered 1 (map (λ f. f.items) (take i xs)) ++ map (drawn_for who) x.items
 gathered_next xs i who x at is =
     let within = slice_get_within xs i x at in
-    let lists = map (λ (f : Vec Sent Global). f.items) (take i xs) in
-    let one : take (i + 1) xs ≡ take i xs ++ x ∷ [] = take_more xs i x within ∙ ap (λ y. take i xs ++ y ∷ []) (get_or_from_slice_get xs i x x at) in
+    let lists = map (λ (f : SentList). f.items) (take i xs) in
+    let one = taken_more xs i x at in
     let count : 1 + length lists ≡ who = omega
-    (arith, length-map (take i xs) (λ (f : Vec Sent Global). f.items), length-take-le i xs (omega (arith, within)), is) in
+    (arith, length-map (take i xs) (λ (f : SentList). f.items), length-take-le i xs (omega (arith, within)), is) in
     ap (λ l. gathered 1 (map (λ f. f.items) l)) one
-    ∙ (ap (gathered 1) (map-append (λ (f : Vec Sent Global). f.items) (take i xs) (x ∷ []))
+    ∙ (ap (gathered 1) (map-append (λ (f : SentList). f.items) (take i xs) (x ∷ []))
     ∙ (gathered_more 1 lists x.items ∙ ap (λ t. gathered 1 lists ++ map (drawn_for t) x.items) count))
 
 all_cons : {X : Type 0} (P : X → Type 0) (x : X) (xs : List X) → P x → All P xs → All P (x ∷ xs)
@@ -115,11 +121,20 @@ gathered_sent a time (frames ∷ lists) h = All-append (λ (d : Drawn). d.sent.a
     (All-map (λ (d : Drawn). d.sent.at ≤ time) (drawn_for a) frames (h 0 frames refl)) (gathered_sent (a + 1) time lists (λ i fs at. h (suc i) fs at))
 
 -- one frame more of a tester's list
-pub frames_more : {X Y : Type 0} (f : X → Y) (xs : List X) (i : ℕ) (x : X) (before now next : List Y) → i < length xs → x ≡ get_or xs i x
+pub frames_more : {X Y : Type 0} (f : X → Y) (xs : List X) (i : ℕ) (x : X) (before now next : List Y) → slice_get xs i ≡ Some x
     → now ≡ before ++ map f (take i xs) → next ≡ now ++ f x ∷ [] → next ≡ before ++ map f (take (i + 1) xs)
-frames_more {X = X} {Y} f xs i x before now next within read is grown =
+frames_more {X = X} {Y} f xs i x before now next at is grown =
     grown
     ∙ (ap (λ (w : List Y). w ++ f x ∷ []) is
     ∙ (append_assoc before (map f (take i xs)) (f x ∷ [])
     ∙ ap (λ (w : List Y). before ++ w) (sym (map-append f (take i xs) (x ∷ []))
-    ∙ ap (λ (ys : List X). map f ys) (sym (take_more xs i x within ∙ ap (λ y. take i xs ++ y ∷ []) (sym read))))))
+    ∙ ap (λ (ys : List X). map f ys) (sym (taken_more xs i x at)))))
+
+-- of a list of one frame
+pub own_one : (setup : RawSetup) (start : Option Start) (index : ℕ) (frames : List Sent) (sent : Sent) → length frames ≡ 1
+    → slice_get frames 0 ≡ Some sent → line_of setup start (drawn_for (index + 1) sent) ≡ own_text setup start index frames
+own_one setup start index [] sent one at = absurd (none-some sent at)
+own_one setup start index (first ∷ []) sent one at =
+    let same : sent ≡ first = cc in
+    ap (λ (s : Sent). line_of setup start (drawn_for (index + 1) s)) same ∙ sym (append-nil (line_of setup start (drawn_for (index + 1) first)))
+own_one setup start index (first ∷ second ∷ frames) sent one at = absurd (omega (arith, one))

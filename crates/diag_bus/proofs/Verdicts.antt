@@ -1,18 +1,22 @@
 -- The verdict, from what is kept of all testers.
-use Rattle.std.proofs.Common.{◌≡◌, ◌<◌, ℕ, zero, suc, ◌+◌, Option, Some, None, List, [], ◌∷◌, ◌++◌, length, refl, ap, ap₂, sym, ◌∙◌, arith}
+use Rattle.std.proofs.Common.{◌≡◌, ◌≢◌, ◌<◌, ℕ, zero, suc, ◌+◌, Option, Some, None, List, [], ◌∷◌, ◌++◌, length, refl, ap, ap₂, sym, ◌∙◌, arith}
 use Rattle.std.proofs.lemmas.List.{append-nil}
 use Rattle.std.proofs.lemmas.List.Elements.{filter_map-append}
 use Rattle.std.proofs.lemmas.List.Sums.{fold-append}
 use Rattle.std.proofs.lemmas.Option.{none-some}
 use Rattle.std.specs.List.{cons_option, filter_map, reduce}
-use Rattle.std.specs.Prelude.{option_map}
+use Rattle.std.specs.Prelude.{OnErr, Result, Ok, Err, option_map, slice_get}
 use Rattle.std.specs.Option.{option_to_list}
 use Rattle.diag_pdu.specs.Cut.{counted_from}
 use Rattle.diag_setup.specs.declared.raw.RawSetup.{RawSetup}
-use Rattle.diag_bus.specs.Comparing.{earlier_of}
+use Rattle.diag_bus.specs.Comparing.{Compares, ComparesLines, IsLack, IsVerdict, earlier_of}
 use Rattle.diag_bus.specs.Verdict.{difference, difference_of, earlier, expected, first_difference, lack_of, numbers, recorded, verdict, verdict_by}
+use Rattle.diag_bus.specs.declared.comparing.Comparison.{Comparison}
+use Rattle.diag_bus.specs.declared.comparing.Comparisons.{Comparisons}
 use Rattle.diag_bus.specs.declared.verdict.Difference.{Difference}
+use Rattle.diag_bus.specs.declared.verdict.Recorded.{Recorded}
 use Rattle.diag_bus.specs.declared.verdict.Verdict.{Verdict}
+use Rattle.diag_bus.specs.declared.verdict.Verdict.TheVariants.{Agrees, Differs, Lacks}
 use Rattle.diag_world.proofs.Waiting.{counted_more}
 
 -- ---- one number more
@@ -85,3 +89,57 @@ verdict_lacks setup lines i v none before less at =
     let next : 1 + i ≡ i + 1 = omega arith in
     let first = first_at (lack_of setup lines) v 1 (length setup.testers) i before less (ap (lack_of setup lines) next ∙ at) in
     sym (ap₂ verdict_by none first.1)
+
+-- ---- of what is kept
+
+-- what a tester's frames lack, where no line differs
+abbrev pub HasLack : Comparison → Option (List ℕ) → Type 0
+HasLack own lack = (recorded : List Recorded) (expected : List (List ℕ)) → Compares own recorded expected → difference recorded expected ≡ None
+    → lack ≡ slice_get expected (length recorded)
+
+module _ (setup : RawSetup) (kept : Comparisons) where
+  -- the testers before this index lack nothing
+  abbrev pub NoneLack : ℕ → Type 0
+  NoneLack i = (lines : List (List ℕ)) → ComparesLines setup kept lines → first_difference setup lines ≡ None
+      → filter_map (lack_of setup lines) (counted_from 1 i) ≡ []
+
+  module _ (i : ℕ) (own : Comparison) (here : slice_get kept.testers.items i ≡ Some own) (less : i < length setup.testers) where
+    -- the tester at this index has a lack: it is the first
+    pub lack_found : (who : ℕ) (next : List ℕ) → who ≡ i + 1 → HasLack own (Some next) → NoneLack i → IsLack setup kept (Lacks who own.count next)
+    lack_found who next is has before = λ lines h none.
+        let each = h.each i own here in
+        let there = has (recorded setup lines (i + 1)) (expected setup lines (i + 1)) each (no_difference setup lines i none less) in
+        let v : Verdict = Lacks who own.count next in
+        let at : lack_of setup lines (i + 1) ≡ Some v =
+        ap (option_map (Lacks (i + 1) (length (recorded setup lines (i + 1))))) (sym there)
+        ∙ ap₂ (λ t n. Some (Lacks t n next)) (sym is) (sym each.count) in
+        verdict_lacks setup lines i v none (before lines h none) less at
+
+    -- or it has none, either
+    pub lack_none : HasLack own None → NoneLack i → NoneLack (i + 1)
+    lack_none has before = λ lines h none.
+        let there = has (recorded setup lines (i + 1)) (expected setup lines (i + 1)) (h.each i own here) (no_difference setup lines i none less) in
+        let at : lack_of setup lines (i + 1) ≡ None = ap (option_map (Lacks (i + 1) (length (recorded setup lines (i + 1))))) (sym there) in
+        number_more (lack_of setup lines) i
+        ∙ ap₂ (λ (xs : List Verdict) (o : Option Verdict). xs ++ option_to_list o) (before lines h none) at
+
+  -- a line differs: the first that does
+  pub differs_first : (who : ℕ) (d : Difference) → ((lines : List (List ℕ)) → ComparesLines setup kept lines → Some (who, d) ≡ first_difference setup lines)
+      → IsVerdict setup kept (Differs who d)
+  differs_first who d first = λ lines h. ap (λ f. verdict_by f (filter_map (lack_of setup lines) (numbers setup))) (first lines h)
+
+  -- no line does
+  pub differs_none : (v : Verdict) → ((lines : List (List ℕ)) → ComparesLines setup kept lines → first_difference setup lines ≡ None)
+      → IsLack setup kept v → IsVerdict setup kept v
+  differs_none v none lack = λ lines h. lack lines h (none lines h)
+
+pub lacks_apart : (who count : ℕ) (next : List ℕ) → Lacks who count next ≢ Agrees
+lacks_apart who count next e = cc
+
+pub differs_apart : (who : ℕ) (d : Difference) → Differs who d ≢ Agrees
+differs_apart who d e = cc
+
+-- what is answered where memory is refused
+pub on_err_of : {T E P : Type 0} (r : Result T E) → P → OnErr r P
+on_err_of (Ok x) p = tt
+on_err_of (Err e) p = p

@@ -1,5 +1,5 @@
 -- What is kept of a recording and of the frames that the server sends: those by which the two are apart.
-use Rattle.std.specs.Prelude.{◌≡◌, ◌⊎◌, ℕ, ◌+◌, List, [], ◌∷◌, ◌++◌, length, map, Option, Some, None, Ok, option_map, slice_get}
+use Rattle.std.specs.Prelude.{◌≡◌, ◌≢◌, ◌⊎◌, ℕ, ◌+◌, List, [], ◌∷◌, ◌++◌, length, map, Option, Some, None, Ok, option_map, slice_get}
 use Rattle.std.specs.Option.{option_to_list}
 use Rattle.diag_can.specs.declared.bus_line.BusLine.{BusLine}
 use Rattle.diag_can.specs.declared.frame.Frame.{Frame}
@@ -8,11 +8,13 @@ use Rattle.diag_setup.specs.Setup.{ids_of}
 use Rattle.diag_setup.specs.declared.raw.RawSetup.{RawSetup}
 use Rattle.diag_bus.specs.Events.{events_of, line_said}
 use Rattle.diag_bus.specs.Text.{sent_of}
-use Rattle.diag_bus.specs.Verdict.{at_line, bytes_of, difference, earlier, expected, expected_of, recorded, reply_bytes}
+use Rattle.diag_bus.specs.Verdict.{at_line, bytes_of, difference, earlier, expected, expected_of, first_difference, recorded, reply_bytes, verdict}
 use Rattle.diag_bus.specs.declared.comparing.Comparison.{Comparison}
 use Rattle.diag_bus.specs.declared.comparing.Comparisons.{Comparisons}
 use Rattle.diag_bus.specs.declared.verdict.Recorded.{Recorded}
 use Rattle.diag_bus.specs.declared.verdict.Difference.{Difference}
+use Rattle.diag_bus.specs.declared.verdict.Verdict.{Verdict}
+use Rattle.diag_bus.specs.declared.verdict.Verdict.TheVariants.{Agrees}
 
 -- ---- of one tester
 
@@ -110,3 +112,18 @@ TakesLine setup old new said drawn = (lines : List (List ℕ)) (line : List ℕ)
     → DrawnBy setup lines line drawn
     → ComparesLines setup old lines
     → ComparesLines setup new (lines ++ line ∷ [])
+
+-- ---- the verdict
+
+-- this is it, on the lines that are stood for
+abbrev pub IsVerdict : RawSetup → Comparisons → Verdict → Type 0
+IsVerdict setup kept v = (lines : List (List ℕ)) → ComparesLines setup kept lines → v ≡ verdict setup lines
+
+-- the same where no line differs
+abbrev pub IsLack : RawSetup → Comparisons → Verdict → Type 0
+IsLack setup kept v = (lines : List (List ℕ)) → ComparesLines setup kept lines → first_difference setup lines ≡ None
+    → v ≡ verdict setup lines
+
+-- there is such a one, and it isn't that all agree
+abbrev pub Disagrees : (Verdict → Type 0) → Type 0
+Disagrees Is = (v : Verdict) × (v ≢ Agrees) × Is v

@@ -21,7 +21,8 @@ use Rattle.diag_world.specs.Weaving.{all_by, items_of}
 use Rattle.diag_bus.specs.declared.fault.BusFault.{BusFault}
 use Rattle.diag_bus.specs.declared.fault.BusFault.TheVariants.{Line, Late}
 
--- what a line says to a unit with this setup: of the identifiers of 29 bits its testers' are read
+-- what a line says to a unit with this setup: its testers' identifiers of 29 bits are read, and frames of CAN FD of those testers
+-- that talk by it
 abbrev pub line_said : RawSetup → List ℕ → Result BusLine LineFault
 line_said setup line = bus_line (known_ids setup) line
 

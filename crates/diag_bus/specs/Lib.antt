@@ -1,6 +1,7 @@
 pub mod Bus
 pub mod Clock
 pub mod Comparing
+pub mod Drawn
 pub mod Events
 pub mod Filled
 pub mod Journal

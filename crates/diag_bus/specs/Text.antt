@@ -12,7 +12,7 @@ use Rattle.diag_tp.specs.Gives.{steps}
 use Rattle.diag_pdu.specs.Cut.{counted_from}
 use Rattle.diag_setup.specs.declared.raw.RawSetup.{RawSetup}
 use Rattle.diag_setup.specs.Rows.{in_order}
-use Rattle.diag_setup.specs.Setup.{link_of, name_of}
+use Rattle.diag_setup.specs.Setup.{flags_of, link_of, name_of}
 use Rattle.diag_ecu.specs.State.{State, opening}
 use Rattle.diag_desk.specs.declared.entry.Entry.{Entry}
 use Rattle.diag_desk.specs.Entries.{asked, asked_by, entry, own}
@@ -23,9 +23,9 @@ use Rattle.diag_port.specs.Late.{pace_of}
 use Rattle.diag_port.specs.Releasing.{drawn}
 use Rattle.diag_world.specs.Server.{sent_to}
 use Rattle.diag_world.specs.Weaving.{items_of, steps_of}
+use Rattle.diag_bus.specs.Drawn.{Drawn}
 use Rattle.diag_bus.specs.Events.{events_of, line_said}
 use Rattle.diag_bus.specs.declared.clock.Start.{Start}
-use Rattle.diag_bus.specs.declared.writing.Drawn.{Drawn}
 
 -- ---- the run
 
@@ -83,7 +83,7 @@ frames_by setup L M = in_order time_of (flat_map (drawn_by setup L M) (counted_f
 
 abbrev pub line_of : RawSetup → Option Start → Drawn → List ℕ
 line_of setup start drawn =
-    reply_line (name_of setup drawn.who) (bus_moment start drawn.sent.at) drawn.sent.frame
+    reply_line (name_of setup drawn.who) (flags_of setup drawn.who) (bus_moment start drawn.sent.at) drawn.sent.frame
 
 -- the reply lines of frames of the tester at this index, from 0, as they stand
 abbrev pub own_text : RawSetup → Option Start → ℕ → List Sent → List ℕ

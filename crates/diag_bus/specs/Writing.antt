@@ -1,20 +1,25 @@
--- The writers of reply lines: whose names they have, and which frames they write.
+-- The writers of reply lines: whose names and flags they have, and which frames they write.
 use Rattle.std.specs.Prelude.{◌≡◌, ◌≤◌, ◌<◌, ℕ, ◌+◌, List, length, Option, Some, slice_get}
 use Rattle.std.specs.List.{All}
+use Rattle.diag_can.specs.WriterView.{WriterView}
 use Rattle.diag_tp.specs.declared.sent.Sent.{Sent}
 use Rattle.diag_setup.specs.declared.raw.RawSetup.{RawSetup}
-use Rattle.diag_setup.specs.Setup.{name_of}
+use Rattle.diag_setup.specs.Setup.{flags_of, name_of}
 use Rattle.diag_world.specs.Server.{closing_time}
 use Rattle.diag_bus.specs.Clock.{StartsBelow, moment_end}
 use Rattle.diag_bus.specs.declared.clock.Start.{Start}
 
--- these are the testers' names
-pub record AreNamesOf (setup : RawSetup) (names : List (List ℕ)) : Type 0 where
-  pub many : length names ≡ length setup.testers
-  pub each : (i : ℕ) (name : List ℕ) → slice_get names i ≡ Some name → name ≡ name_of setup (i + 1)
+-- what the writer of a tester has
+abbrev pub writer_of : RawSetup → ℕ → WriterView
+writer_of setup t = record { name = name_of setup t; flags = flags_of setup t }
 
--- frames of the tester at this index, from 0, are written by the writers of these names
-pub record AreWritable (setup : RawSetup) (begins : Option Start) (writers : List (List ℕ)) (index : ℕ)
+-- these are the testers' writers: they have their names and flags
+pub record AreNamesOf (setup : RawSetup) (writers : List WriterView) : Type 0 where
+  pub many : length writers ≡ length setup.testers
+  pub each : (i : ℕ) (writer : WriterView) → slice_get writers i ≡ Some writer → writer ≡ writer_of setup (i + 1)
+
+-- frames of the tester at this index, from 0, are written by these writers
+pub record AreWritable (setup : RawSetup) (begins : Option Start) (writers : List WriterView) (index : ℕ)
     (frames : List Sent) : Type 0 where
   pub names : AreNamesOf setup writers
   pub tester : index < length setup.testers

@@ -16,10 +16,10 @@ use crate::line_frames::LineFrames;
 use crate::node::Node;
 use crate::request_ids::RequestIds;
 use crate::sink::Sink;
-use diag_can::{BusLine, CanId, read_bus_line};
+use diag_can::{BusLine, KnownId, read_bus_line};
 use diag_ecu::Ecu;
 use diag_setup::Setup;
-use diag_tp::Sent;
+use diag_tp::SentFrames;
 use diag_world::Server;
 use std::alloc::{AllocError, Global};
 use std::marker::Model;
@@ -154,8 +154,9 @@ impl<S: Sink> Bus<S> {
         self.node.server.quiet()
     }
 
-    /// The identifiers of 29 bits that are read: those that a tester has.
-    pub fn known(&self) -> &[CanId]
+    /// The identifiers of which lines are read that are passed over otherwise: those of 29 bits that a tester has, and all of
+    /// testers that talk by CAN FD.
+    pub fn known(&self) -> &[KnownId]
         ensures { result.now ≡ known_ids self.now.setup }
     {
         self.ids.known()
@@ -193,12 +194,12 @@ impl<S: Sink> Bus<S> {
 }
 
 /// So many empty lists.
-fn empty_lists(alloc: Global, count: usize) -> Result<Vec<Vec<Sent>>, AllocError>
+fn empty_lists(alloc: Global, count: usize) -> Result<Vec<SentFrames>, AllocError>
     ensures { IfOk result (λ lists. length lists.items ≡ count) }
 {
     let mut lists = Vec::new(alloc);
     for made in 0..count {
-        lists.push(Vec::new(alloc))?;
+        lists.push(SentFrames::new(alloc))?;
     }
     Ok(lists)
 }

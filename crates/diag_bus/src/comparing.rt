@@ -1,12 +1,12 @@
 //! What is kept of a recording and of the frames that the server sends, to compare the two.
 
-ghost use Rattle.std.specs.Prelude.{◌≡◌, ◌≤◌, ℕ, List, [], ◌∷◌, ◌+◌, length, map, slice_get, Some, IfSome, OnOk, IfOk};
-ghost use Rattle.diag_bus.specs.Comparing.{Compared, Compares, ComparesLines, EachExpects, EachRecords, Expects, Records, TakesLine};
+ghost use Rattle.std.specs.Prelude.{◌≡◌, ◌≤◌, ℕ, List, [], ◌∷◌, ◌+◌, length, map, slice_get, option_copied, Some, IfSome, OnOk, OnErr, IfOk};
+ghost use Rattle.diag_bus.specs.Comparing.{Compared, Compares, ComparesLines, Disagrees, EachExpects, EachRecords, Expects, IsLack, IsVerdict, Records, TakesLine};
 ghost use Rattle.diag_bus.specs.Filled.{AreFilled};
 ghost use Rattle.diag_bus.specs.Node.{lists_of};
 ghost use Rattle.diag_bus.specs.RequestIds.{IsWithin};
 ghost use Rattle.diag_bus.specs.ResponseIds.{AreResponsesOf, IsResponder};
-ghost use Rattle.diag_bus.specs.Verdict.{difference, expected_of, first_difference, is_pending, recorded, verdict};
+ghost use Rattle.diag_bus.specs.Verdict.{difference, expected_of, first_difference, is_pending, recorded};
 ghost use Rattle.diag_bus.specs.declared.comparing.Comparison.{Comparison as AComparison};
 ghost use Rattle.diag_bus.specs.declared.verdict.Recorded.{Recorded as ARecorded};
 ghost use Rattle.diag_setup.specs.declared.raw.RawSetup.{RawSetup};
@@ -16,12 +16,12 @@ use crate::filled::Filled;
 use crate::line_frames::LineFrames;
 use crate::response_ids::ResponseIds;
 use crate::sink::Sink;
-use crate::verdict::{Difference, Recorded, Verdict, earlier, same_difference};
-use diag_can::{BusLine, FrameBytes, FrameText, TickCount};
+use crate::verdict::{Difference, LentDifference, Recorded, Verdict, earlier};
+use diag_can::{BusLine, FrameText, KeptBytes, TickCount};
 use diag_ecu::Ecu;
 use diag_pdu::{Message, Request};
 use diag_setup::{Setup, TesterId};
-use diag_tp::Sent;
+use diag_tp::SentFrames;
 use std::alloc::{AllocError, Global};
 use std::collections::VecDeque;
 
@@ -33,7 +33,7 @@ pub struct Comparison {
     /// Frames of the recording that the server has yet to send.
     pub ahead: VecDeque<Recorded>,
     /// Frames of the server that the recording has yet to have.
-    pub behind: VecDeque<FrameBytes>,
+    pub behind: VecDeque<KeptBytes>,
     /// How many frames the recording had.
     pub count: u64,
     /// The first difference, once the frame that the server sends at its index is known. Nothing is kept behind it.
@@ -54,7 +54,7 @@ impl Comparison {
     }
 
     /// Compares a frame of the recording with the one that the server sends at its index.
-    fn compare(&mut self, frame: Recorded, bytes: FrameBytes)
+    fn compare(&mut self, frame: Recorded, bytes: KeptBytes)
         requires { self.old.difference ≡ None }
         ensures { Compared self.old self.new frame bytes }
     {
@@ -70,12 +70,14 @@ impl Comparison {
     }
 
     /// Takes a frame that the server sends.
-    fn expect(&mut self, bytes: FrameBytes) -> Result<(), AllocError>
-        ensures { OnOk result (Expects self.old self.new (bytes ∷ [])) }
+    fn expect(&mut self, bytes: &[u8]) -> Result<(), AllocError>
+        requires { length bytes.now ≤ 64 }
+        ensures { OnOk result (Expects self.old self.new (bytes.now ∷ [])) }
     {
         if self.difference.is_some() {
             return Ok(());
         }
+        let bytes = KeptBytes::of(*self.behind.allocator(), bytes)?;
         match self.ahead.pop_front() {
             Some(frame) => self.compare(frame, bytes),
             None => self.behind.push_back(bytes)?,
@@ -99,30 +101,31 @@ impl Comparison {
     }
 
     /// Takes the frames that the server sends with a line, those left out that say response pending.
-    fn expect_each(&mut self, sent: &[Sent]) -> Result<(), AllocError>
-        ensures { OnOk result (Expects self.old self.new (expected_of sent.now)) }
+    fn expect_each(&mut self, sent: &SentFrames) -> Result<(), AllocError>
+        ensures { OnOk result (Expects self.old self.new (expected_of sent.now.items)) }
     {
-        for next in sent {
-            if !is_pending(next.frame.bytes.as_slice()) {
-                self.expect(next.frame.bytes.copy())?;
+        for index in 0..sent.len() {
+            let next = sent.get(index);
+            if !is_pending(next.bytes) {
+                self.expect(next.bytes)?;
             }
         }
         Ok(())
     }
 
     /// The first difference, where the recording ends here.
-    fn difference(&self) -> Option<Difference>
+    fn difference(&self) -> Option<LentDifference<'_>>
         ensures { (recorded : List ARecorded) (expected : List (List ℕ))
             → Compares self.now recorded expected
             → result ≡ difference recorded expected }
     {
         if let Some(settled) = &self.difference {
-            return Some(same_difference(settled));
+            return Some(settled.lent());
         }
         match self.ahead.front() {
-            Some(frame) => Some(Difference {
+            Some(frame) => Some(LentDifference {
                 line: frame.line,
-                sent: frame.bytes.copy(),
+                sent: &frame.bytes,
                 expected: None,
             }),
             None => None,
@@ -130,16 +133,13 @@ impl Comparison {
     }
 
     /// The next frame that the recording lacks, where it differs nowhere.
-    fn lack(&self) -> Option<FrameBytes>
+    fn lack(&self) -> Option<&KeptBytes>
         ensures { (recorded : List ARecorded) (expected : List (List ℕ))
             → Compares self.now recorded expected
             → difference recorded expected ≡ None
-            → result ≡ slice_get expected (length recorded) }
+            → option_copied result ≡ slice_get expected (length recorded) }
     {
-        match self.behind.front() {
-            Some(bytes) => Some(bytes.copy()),
-            None => None,
-        }
+        self.behind.front()
     }
 }
 
@@ -228,7 +228,7 @@ impl Comparisons {
     }
 
     /// The first difference in the order of the lines, and its tester.
-    fn first_difference(&self, setup: &Setup) -> Option<(TesterId, Difference)>
+    fn first_difference(&self, setup: &Setup) -> Option<(TesterId, LentDifference<'_>)>
         requires { length self.now.testers.items ≤ length setup.now.testers }
         ensures { (lines : List (List ℕ)) → ComparesLines setup.now self.now lines
             → result ≡ first_difference setup.now lines }
@@ -244,11 +244,10 @@ impl Comparisons {
     }
 
     /// What is to be said where no line differs: the first tester of whom frames are missing, if there is one.
-    fn first_lack(&self, setup: &Setup) -> Verdict
+    fn first_lack(&self, setup: &Setup) -> Result<Verdict, AllocError>
         requires { length self.now.testers.items ≤ length setup.now.testers }
-        ensures { (lines : List (List ℕ)) → ComparesLines setup.now self.now lines
-            → first_difference setup.now lines ≡ None
-            → result ≡ verdict setup.now lines }
+        ensures ok { IfOk result (IsLack setup.now self.now) }
+        ensures err { OnErr result (Disagrees (IsLack setup.now self.now)) }
     {
         for index in 0..self.testers.len() {
             let Some(who) = setup.who(index) else {
@@ -256,21 +255,27 @@ impl Comparisons {
             };
             let own = &self.testers[index];
             if let Some(next) = own.lack() {
-                let count = own.count;
-                return Verdict::Lacks { who, count, next };
+                return Ok(Verdict::Lacks {
+                    who,
+                    count: own.count,
+                    next: next.try_copy()?,
+                });
             }
         }
-        Verdict::Agrees
+        Ok(Verdict::Agrees)
     }
 
     /// The verdict, where the recording ends here.
-    pub fn verdict(&self, setup: &Setup) -> Verdict
+    ///
+    /// # Errors
+    /// `AllocError` where memory is refused for a frame of more than 8 bytes that the verdict names: it isn't that all agree.
+    pub fn verdict(&self, setup: &Setup) -> Result<Verdict, AllocError>
         requires { length self.now.testers.items ≤ length setup.now.testers }
-        ensures { (lines : List (List ℕ)) → ComparesLines setup.now self.now lines
-            → result ≡ verdict setup.now lines }
+        ensures ok { IfOk result (IsVerdict setup.now self.now) }
+        ensures err { OnErr result (Disagrees (IsVerdict setup.now self.now)) }
     {
         match self.first_difference(setup) {
-            Some((who, difference)) => Verdict::Differs(who, difference),
+            Some((who, difference)) => Ok(Verdict::Differs(who, difference.copy()?)),
             None => self.first_lack(setup),
         }
     }
@@ -370,20 +375,20 @@ fn expect(testers: &mut Vec<Comparison>, drawn: &LineFrames) -> Result<(), Alloc
 {
     match drawn.filled {
         Filled::Nowhere => Ok(()),
-        Filled::At(index) => testers[index].expect_each(drawn.lists[index].as_slice()),
+        Filled::At(index) => testers[index].expect_each(&drawn.lists[index]),
         Filled::Anywhere => expect_all(testers, drawn.lists.as_slice()),
     }
 }
 
 /// The same of all testers.
 #[inline(never)]
-fn expect_all(testers: &mut Vec<Comparison>, drawn: &[Vec<Sent>]) -> Result<(), AllocError>
+fn expect_all(testers: &mut Vec<Comparison>, drawn: &[SentFrames]) -> Result<(), AllocError>
     requires { length drawn.now ≡ length testers.old.items }
     ensures ok { OnOk result (EachExpects (map (λ frames. frames.items) drawn.now) testers.old.items testers.new.items) }
     ensures shape { length testers.new.items ≡ length testers.old.items }
 {
     for index in 0..testers.len() {
-        testers[index].expect_each(drawn[index].as_slice())?;
+        testers[index].expect_each(&drawn[index])?;
     }
     Ok(())
 }
@@ -405,11 +410,33 @@ fn record(
     let Some(who) = responder else {
         return Ok(());
     };
-    let bytes = frame.bytes();
+    let bytes = kept_bytes(*testers.allocator(), frame)?;
     if is_pending(bytes.as_slice()) {
         return Ok(());
     }
     testers[who.index()].record(Recorded { line, bytes })
+}
+
+/// The bytes of a frame; up to 8 take no memory.
+#[inline(always)]
+fn kept_bytes(alloc: Global, frame: &FrameText) -> Result<KeptBytes, AllocError>
+    ensures { IfOk result (λ bytes. bytes ≡ frame.now.bytes) }
+{
+    if frame.is_long() {
+        long_bytes(alloc, frame)
+    } else {
+        Ok(KeptBytes::short(frame.bytes()))
+    }
+}
+
+/// The same, however many they are.
+#[cold]
+#[inline(never)]
+fn long_bytes(alloc: Global, frame: &FrameText) -> Result<KeptBytes, AllocError>
+    ensures { IfOk result (λ bytes. bytes ≡ frame.now.bytes) }
+{
+    let bytes = frame.long_bytes();
+    KeptBytes::of(alloc, bytes.as_slice())
 }
 
 /// Whether a frame says response pending.

@@ -5,13 +5,13 @@ ghost use Rattle.diag_tp.specs.declared.sent.Sent.{Sent as ASent};
 ghost use Rattle.diag_bus.specs.Filled.{AreFilled};
 
 use crate::filled::Filled;
-use diag_tp::Sent;
+use diag_tp::SentFrames;
 
 /// The frames that each tester is sent with a line.
 #[derive(Drop)]
 pub struct LineFrames {
     /// Of each tester, in order.
-    pub lists: Vec<Vec<Sent>>,
+    pub lists: Vec<SentFrames>,
     /// Which of these may have some.
     pub filled: Filled,
 }
@@ -33,7 +33,7 @@ impl LineFrames {
 }
 
 /// Empties the testers' lists, of which these may have frames.
-fn clear(drawn: &mut Vec<Vec<Sent>>, filled: Filled)
+fn clear(drawn: &mut Vec<SentFrames>, filled: Filled)
     requires filled { AreFilled filled (map (λ f. f.items) drawn.old.items) }
     ensures empty { (i : ℕ) (frames : List ASent)
         → slice_get (map (λ f. f.items) drawn.new.items) i ≡ Some frames → frames ≡ [] }
@@ -47,7 +47,7 @@ fn clear(drawn: &mut Vec<Vec<Sent>>, filled: Filled)
 }
 
 /// Empties each tester's list.
-fn clear_all(drawn: &mut Vec<Vec<Sent>>)
+fn clear_all(drawn: &mut Vec<SentFrames>)
     ensures empty { (i : ℕ) (frames : List ASent)
         → slice_get (map (λ f. f.items) drawn.new.items) i ≡ Some frames → frames ≡ [] }
     ensures lists { length drawn.new.items ≡ length drawn.old.items }

@@ -16,7 +16,7 @@ use crate::entering::Entering;
 use crate::line_frames::LineFrames;
 use crate::request_ids::{Owner, RequestIds};
 use crate::sink::Sink;
-use diag_can::{BusLine, Event, FrameText, TickCount};
+use diag_can::{BusLine, CanId, FrameText, LentEvent, TickCount};
 use diag_setup::{Setup, TesterId};
 use diag_world::Server;
 use std::alloc::AllocError;
@@ -56,7 +56,7 @@ impl Node {
     fn give<S: Sink>(
         &mut self,
         who: TesterId,
-        event: &Event,
+        event: &LentEvent<'_>,
         sink: &mut S,
     ) -> Result<(), AllocError>
         requires in_setup { who ≤ length self.old.server.ports }
@@ -125,7 +125,7 @@ impl Node {
             self.rest = rest - u64::from(count.get());
             return Ok(());
         }
-        self.give_to_each(setup, &Event::Ticks(count), sink)
+        self.give_to_each(setup, &LentEvent::ticks(count), sink)
     }
 
     /// Lets so many milliseconds pass for each tester.
@@ -165,7 +165,7 @@ impl Node {
         }
     }
 
-    /// Gives the server a frame, by whose it is.
+    /// Gives the server a frame, by whose it is. Its bytes are decoded where it is somebody's.
     #[inline(always)]
     fn give_frame<S: Sink>(
         &mut self,
@@ -181,10 +181,59 @@ impl Node {
         ensures { Passed S.took (StaysFor S.is_for S.aim) self.old sink.old self.new sink.new 0
             (given setup.now frame.now.id (length setup.now.testers) owner frame.now.bytes) result }
     {
+        if let Owner::Nobody = owner {
+            return Ok(());
+        }
+        if frame.is_long() {
+            return self.give_long(setup, owner, frame, sink);
+        }
+        let bytes = frame.bytes();
+        self.give_bytes(setup, owner, frame.id(), bytes.as_slice(), sink)
+    }
+
+    /// The same of a frame of more than 8 bytes, or of any.
+    #[cold]
+    #[inline(never)]
+    fn give_long<S: Sink>(
+        &mut self,
+        setup: &Setup,
+        owner: Owner,
+        frame: &FrameText,
+        sink: &mut S,
+    ) -> Result<(), AllocError>
+        requires in_setup { length self.old.server.ports ≡ length setup.now.testers }
+        requires lists { length self.old.drawn.lists.items ≡ length setup.now.testers }
+        requires owner { IsOwner setup.now frame.now.id (length setup.now.testers) owner }
+        requires early { HasTime self.old.server 0 }
+        ensures { Passed S.took (StaysFor S.is_for S.aim) self.old sink.old self.new sink.new 0
+            (given setup.now frame.now.id (length setup.now.testers) owner frame.now.bytes) result }
+    {
+        let bytes = frame.long_bytes();
+        self.give_bytes(setup, owner, frame.id(), bytes.as_slice(), sink)
+    }
+
+    /// Gives the server a frame of this identifier and these bytes, by whose it is.
+    #[inline(always)]
+    fn give_bytes<S: Sink>(
+        &mut self,
+        setup: &Setup,
+        owner: Owner,
+        id: CanId,
+        bytes: &[u8],
+        sink: &mut S,
+    ) -> Result<(), AllocError>
+        requires fits { length bytes.now ≤ 64 }
+        requires in_setup { length self.old.server.ports ≡ length setup.now.testers }
+        requires lists { length self.old.drawn.lists.items ≡ length setup.now.testers }
+        requires owner { IsOwner setup.now id (length setup.now.testers) owner }
+        requires early { HasTime self.old.server 0 }
+        ensures { Passed S.took (StaysFor S.is_for S.aim) self.old sink.old self.new sink.new 0
+            (given setup.now id (length setup.now.testers) owner bytes.now) result }
+    {
         match owner {
             Owner::Nobody => Ok(()),
-            Owner::Tester(who) => self.give(who, &Event::Physical(frame.bytes()), sink),
-            Owner::Functional => self.give_functional(setup, frame, sink),
+            Owner::Tester(who) => self.give(who, &LentEvent::physical(bytes), sink),
+            Owner::Functional => self.give_functional(setup, id, bytes, sink),
         }
     }
 
@@ -193,20 +242,22 @@ impl Node {
     fn give_functional<S: Sink>(
         &mut self,
         setup: &Setup,
-        frame: &FrameText,
+        id: CanId,
+        bytes: &[u8],
         sink: &mut S,
     ) -> Result<(), AllocError>
+        requires fits { length bytes.now ≤ 64 }
         requires in_setup { length self.old.server.ports ≡ length setup.now.testers }
         requires lists { length self.old.drawn.lists.items ≡ length setup.now.testers }
         requires early { HasTime self.old.server 0 }
         ensures { Passed S.took (StaysFor S.is_for S.aim) self.old sink.old self.new sink.new 0
-            (functional_to_all setup.now frame.now.id (length setup.now.testers) frame.now.bytes) result }
+            (functional_to_all setup.now id (length setup.now.testers) bytes.now) result }
     {
         for index in 0..setup.testers() {
             let Some(who) = setup.who(index) else {
                 unreachable!()
             };
-            self.give_functional_to(setup, who, frame, sink)?;
+            self.give_functional_to(setup, who, id, bytes, sink)?;
         }
         Ok(())
     }
@@ -216,18 +267,20 @@ impl Node {
         &mut self,
         setup: &Setup,
         who: TesterId,
-        frame: &FrameText,
+        id: CanId,
+        bytes: &[u8],
         sink: &mut S,
     ) -> Result<(), AllocError>
+        requires fits { length bytes.now ≤ 64 }
         requires known { who ≤ length setup.now.testers }
         requires in_setup { who ≤ length self.old.server.ports }
         requires lists { length self.old.drawn.lists.items ≡ length self.old.server.ports }
         requires early { HasTime self.old.server 0 }
         ensures { Passed S.took (StaysFor S.is_for S.aim) self.old sink.old self.new sink.new 0
-            (functional_to setup.now frame.now.id frame.now.bytes who) result }
+            (functional_to setup.now id bytes.now who) result }
     {
-        if frame.id() == setup.ids(who).functional {
-            self.give(who, &Event::Functional(frame.bytes()), sink)
+        if id == setup.ids(who).functional {
+            self.give(who, &LentEvent::functional(bytes), sink)
         } else {
             Ok(())
         }
@@ -237,7 +290,7 @@ impl Node {
     fn give_to_each<S: Sink>(
         &mut self,
         setup: &Setup,
-        event: &Event,
+        event: &LentEvent<'_>,
         sink: &mut S,
     ) -> Result<(), AllocError>
         requires in_setup { length self.old.server.ports ≡ length setup.now.testers }

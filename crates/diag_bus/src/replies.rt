@@ -53,8 +53,8 @@ impl Replies {
     {
         match drawn.filled {
             Filled::Nowhere => Ok(()),
-            Filled::At(index) if is_in_order(drawn.lists[index].as_slice()) => {
-                let frames = drawn.lists[index].as_slice();
+            Filled::At(index) if is_in_order(&drawn.lists[index]) => {
+                let frames = &drawn.lists[index];
                 write_own(setup, clock, &mut self.writers, index, frames, text)
             }
             Filled::At(_) | Filled::Anywhere => {

@@ -5,7 +5,7 @@ ghost use Rattle.diag_setup.specs.Setup.{known_ids};
 ghost use Rattle.diag_setup.specs.declared.raw.RawSetup.{RawSetup};
 ghost use Rattle.diag_bus.specs.RequestIds.{AreRequestsOf, IsOwner};
 
-use diag_can::CanId;
+use diag_can::{CanId, KnownId};
 use diag_setup::{Setup, TesterId};
 use std::alloc::{AllocError, Global};
 
@@ -28,8 +28,8 @@ pub enum Owner {
 pub struct RequestIds {
     /// By the identifier, of those of 11 bits.
     pub owners: Vec<Owner>,
-    /// The identifiers of 29 bits that are read.
-    pub known: Vec<CanId>,
+    /// Those of which lines are read that are passed over otherwise: of 29 bits, or by CAN FD.
+    pub known: Vec<KnownId>,
 }
 
 impl RequestIds {
@@ -48,9 +48,9 @@ impl RequestIds {
         Ok(RequestIds { owners, known })
     }
 
-    /// The identifiers of 29 bits that are read.
+    /// The identifiers of which lines are read that are passed over otherwise.
     #[inline(always)]
-    pub(crate) fn known(&self) -> &[CanId]
+    pub fn known(&self) -> &[KnownId]
         ensures { (setup : RawSetup) → AreRequestsOf setup self.now → result.now ≡ known_ids setup }
     {
         self.known.as_slice()

@@ -1,10 +1,12 @@
 //! The verdict on a recording: whether the unit in it answered as the server does.
 
-ghost use Rattle.std.specs.Prelude.{◌≡◌, Some, option_map};
+ghost use Rattle.std.specs.Prelude.{◌≡◌, Some, IfOk, option_map};
 ghost use Rattle.diag_bus.specs.Comparing.{earlier_of};
 
-use diag_can::FrameBytes;
+use diag_can::KeptBytes;
 use diag_setup::TesterId;
+use std::alloc::AllocError;
+use std::marker::Model;
 
 /// A frame that the recording has of the unit's.
 #[derive(Debug, Drop)]
@@ -12,7 +14,7 @@ pub struct Recorded {
     /// The number of its line, from 1.
     pub line: u64,
     /// Its bytes.
-    pub bytes: FrameBytes,
+    pub bytes: KeptBytes,
 }
 
 /// A frame of the recording that isn't the one that the server sends at its index.
@@ -21,9 +23,26 @@ pub struct Difference {
     /// The number of its line, from 1.
     pub line: u64,
     /// Its bytes.
-    pub sent: FrameBytes,
+    pub sent: KeptBytes,
     /// The bytes that the server sends at its index; none where the server sends no more.
-    pub expected: Option<FrameBytes>,
+    pub expected: Option<KeptBytes>,
+}
+
+/// A difference whose bytes are lent.
+#[derive(Drop)]
+pub(crate) struct LentDifference<'a> {
+    pub line: u64,
+    pub sent: &'a KeptBytes,
+    pub expected: Option<&'a KeptBytes>,
+}
+
+impl<'a> Model for LentDifference<'a> {
+    ghost use Rattle.std.specs.Prelude.{option_copied};
+    ghost use Rattle.diag_bus.specs.declared.verdict.Difference.{Difference};
+
+    ghost Value = { Difference };
+
+    ghost view = { λ d. record { line = d.line; sent = d.sent.now; expected = option_copied d.expected } };
 }
 
 /// What is to be said of a recording beside the frames that the server sends.
@@ -37,31 +56,46 @@ pub enum Verdict {
     Lacks {
         who: TesterId,
         count: u64,
-        next: FrameBytes,
+        next: KeptBytes,
     },
 }
 
-/// The same difference again.
-pub(crate) fn same_difference(difference: &Difference) -> Difference
-    ensures { result ≡ difference.now }
-{
-    Difference {
-        line: difference.line,
-        sent: difference.sent.copy(),
-        expected: match &difference.expected {
-            Some(bytes) => Some(bytes.copy()),
-            None => None,
-        },
+impl Difference {
+    /// The difference, its bytes lent.
+    pub(crate) fn lent(&self) -> LentDifference<'_>
+        ensures { result ≡ self.now }
+    {
+        LentDifference {
+            line: self.line,
+            sent: &self.sent,
+            expected: self.expected.as_ref(),
+        }
+    }
+}
+
+impl<'a> LentDifference<'a> {
+    /// The difference, where memory isn't refused.
+    pub fn copy(&self) -> Result<Difference, AllocError>
+        ensures { IfOk result (λ difference. difference ≡ self.now) }
+    {
+        Ok(Difference {
+            line: self.line,
+            sent: self.sent.try_copy()?,
+            expected: match self.expected {
+                Some(bytes) => Some(bytes.try_copy()?),
+                None => None,
+            },
+        })
     }
 }
 
 /// The difference of the lesser line, where there is another of this tester.
-pub(crate) fn earlier(
-    first: Option<(TesterId, Difference)>,
+pub(crate) fn earlier<'a>(
+    first: Option<(TesterId, LentDifference<'a>)>,
     who: TesterId,
-    other: Option<Difference>,
-) -> Option<(TesterId, Difference)>
-    ensures { result ≡ earlier_of first (option_map (λ d. (who, d)) other) }
+    other: Option<LentDifference<'a>>,
+) -> Option<(TesterId, LentDifference<'a>)>
+    ensures { result ≡ earlier_of first.entry (option_map (λ d. (who, d)) other.entry) }
 {
     let Some(other) = other else {
         return first;

@@ -11,18 +11,51 @@ ghost use Rattle.diag_bus.specs.Text.{bus_moment, drawn_for, drawn_text, gathere
 ghost use Rattle.diag_bus.specs.Writing.{AreNamesOf, AreWritable};
 
 use crate::clock::{Clock, Start};
-use diag_can::{Frame, LineWriter};
+use diag_can::{CanId, KeptBytes, LineWriter};
 use diag_setup::{Setup, TesterId};
-use diag_tp::Sent;
+use diag_tp::{SentFrame, SentFrames};
 use std::alloc::{AllocError, Global};
+use std::marker::Model;
 
 /// A frame that a tester is sent.
 #[derive(Drop)]
 pub struct Drawn {
     /// The tester.
     pub who: TesterId,
-    /// The frame, with its time on the tester's link.
-    pub sent: Sent,
+    /// The frame's time on the tester's link.
+    pub at: u64,
+    /// Its identifier.
+    pub id: CanId,
+    /// Its data, up to 64 bytes.
+    pub bytes: KeptBytes,
+}
+
+impl Model for Drawn {
+    ghost use Rattle.std.specs.Prelude.{◌≤◌, length};
+    ghost use Rattle.diag_bus.specs.Drawn.{Drawn as DrawnFrame};
+
+    ghost Value = { DrawnFrame };
+
+    ghost view = { λ d. record {
+      who = d.who;
+      sent = record { at = d.at; frame = record { id = d.id; bytes = d.bytes } };
+    } };
+
+    ghost invariant = { λ d. length d.bytes ≤ 64 };
+}
+
+impl Drawn {
+    /// The frame, its bytes lent.
+    #[inline(always)]
+    pub fn sent(&self) -> SentFrame<'_>
+        ensures { result ≡ self.now.sent }
+    {
+        SentFrame {
+            at: self.at,
+            id: self.id,
+            bytes: self.bytes.as_slice(),
+        }
+    }
 }
 
 /// A link's time as a moment of the bus.
@@ -42,39 +75,30 @@ fn sort_batch(batch: &mut Vec<Drawn>) -> Result<(), AllocError>
     ensures is { OnOk result (batch.new.items ≡ in_order time_of batch.old.items) }
     ensures same { OnOk result (IsPermutation batch.old.items batch.new.items) }
 {
-    batch.sort_by_key(|drawn| drawn.sent.at)?;
+    batch.sort_by_key(|drawn| drawn.at)?;
     Ok(())
 }
 
 /// Copies a tester's frames to the end of a batch.
-fn add_frames(batch: &mut Vec<Drawn>, who: TesterId, frames: &[Sent]) -> Result<(), AllocError>
+fn add_frames(batch: &mut Vec<Drawn>, who: TesterId, frames: &SentFrames) -> Result<(), AllocError>
     ensures { OnOk result
-        (batch.new.items ≡ batch.old.items ++ map (drawn_for who) frames.now) }
+        (batch.new.items ≡ batch.old.items ++ map (drawn_for who) frames.now.items) }
 {
-    for sent in frames {
+    for index in 0..frames.len() {
+        let sent = frames.get(index);
+        let bytes = KeptBytes::of(*batch.allocator(), sent.bytes)?;
         batch.push(Drawn {
             who,
-            sent: same_sent(sent),
+            at: sent.at,
+            id: sent.id,
+            bytes,
         })?;
     }
     Ok(())
 }
 
-/// The same frame again.
-fn same_sent(sent: &Sent) -> Sent
-    ensures { result ≡ sent.now }
-{
-    Sent {
-        at: sent.at,
-        frame: Frame {
-            id: sent.frame.id,
-            bytes: sent.frame.bytes.copy(),
-        },
-    }
-}
-
 /// Copies the frames of each tester's list into a batch, one list behind the other.
-fn gather(setup: &Setup, drawn: &[Vec<Sent>], batch: &mut Vec<Drawn>) -> Result<(), AllocError>
+fn gather(setup: &Setup, drawn: &[SentFrames], batch: &mut Vec<Drawn>) -> Result<(), AllocError>
     requires { length drawn.now ≡ length setup.now.testers }
     ensures { OnOk result (batch.new.items
         ≡ batch.old.items ++ gathered 1 (map (λ f. f.items) drawn.now)) }
@@ -83,7 +107,7 @@ fn gather(setup: &Setup, drawn: &[Vec<Sent>], batch: &mut Vec<Drawn>) -> Result<
         let Some(who) = setup.who(index) else {
             unreachable!()
         };
-        add_frames(batch, who, drawn[index].as_slice())?;
+        add_frames(batch, who, &drawn[index])?;
     }
     Ok(())
 }
@@ -97,7 +121,8 @@ pub(crate) fn writers_of(alloc: Global, setup: &Setup) -> Result<Vec<LineWriter>
         let Some(who) = setup.who(index) else {
             unreachable!()
         };
-        let writer = LineWriter::new(alloc, setup.name(who), setup.ids(who).response)?;
+        let (name, flags) = (setup.name(who), setup.flags(who));
+        let writer = LineWriter::new(alloc, name, setup.ids(who).response, flags)?;
         writers.push(writer)?;
     }
     Ok(writers)
@@ -105,18 +130,19 @@ pub(crate) fn writers_of(alloc: Global, setup: &Setup) -> Result<Vec<LineWriter>
 
 /// Whether no frame is earlier than the one before it.
 #[inline(always)]
-pub(crate) fn is_in_order(frames: &[Sent]) -> bool
-    ensures { IsTrue result → IsNonDecreasingBy (λ f. f.at) frames.now }
+pub(crate) fn is_in_order(frames: &SentFrames) -> bool
+    ensures { IsTrue result → IsNonDecreasingBy (λ f. f.at) frames.now.items }
 {
     if frames.len() < 2 {
         return true;
     }
     let mut last = 0;
-    for sent in frames {
-        if sent.at < last {
+    for index in 0..frames.len() {
+        let at = frames.get(index).at;
+        if at < last {
             return false;
         }
-        last = sent.at;
+        last = at;
     }
     true
 }
@@ -128,7 +154,7 @@ fn write_one(
     clock: &Clock,
     writers: &mut Vec<LineWriter>,
     index: usize,
-    sent: &Sent,
+    sent: &SentFrame<'_>,
     text: &mut Vec<u8>,
 ) -> Result<(), AllocError>
     requires names { AreNamesOf setup.now writers.old.items }
@@ -143,7 +169,7 @@ fn write_one(
     // (for its contract: the writers are those of its testers)
     let _ = setup;
     let moment = bus_moment(clock.start, sent.at);
-    writers[index].write(text, moment, &sent.frame)
+    writers[index].write(text, moment, sent.id, sent.bytes)
 }
 
 /// Adds the reply lines of the frames that the tester at this index, from 0, is sent, as they stand. Refused, the text is
@@ -154,18 +180,19 @@ pub(crate) fn write_own(
     clock: &Clock,
     writers: &mut Vec<LineWriter>,
     index: usize,
-    frames: &[Sent],
+    frames: &SentFrames,
     text: &mut Vec<u8>,
 ) -> Result<(), AllocError>
-    requires { AreWritable setup.now clock.now.start writers.old.items index frames.now }
+    requires { AreWritable setup.now clock.now.start writers.old.items index frames.now.items }
     ensures ok { OnOk result
-        (text.new.items ≡ text.old.items ++ own_text setup.now clock.now.start index frames.now) }
+        (text.new.items ≡ text.old.items ++ own_text setup.now clock.now.start index frames.now.items) }
     ensures err { OnErr result (text.new.items ≡ text.old.items) }
     ensures names { writers.new.items ≡ writers.old.items }
 {
-    match frames {
-        [sent] => write_one(setup, clock, writers, index, sent, text),
-        _ => write_each(setup, clock, writers, index, frames, text),
+    if frames.len() == 1 {
+        write_one(setup, clock, writers, index, &frames.get(0), text)
+    } else {
+        write_each(setup, clock, writers, index, frames, text)
     }
 }
 
@@ -176,18 +203,19 @@ fn write_each(
     clock: &Clock,
     writers: &mut Vec<LineWriter>,
     index: usize,
-    frames: &[Sent],
+    frames: &SentFrames,
     text: &mut Vec<u8>,
 ) -> Result<(), AllocError>
-    requires { AreWritable setup.now clock.now.start writers.old.items index frames.now }
+    requires { AreWritable setup.now clock.now.start writers.old.items index frames.now.items }
     ensures ok { OnOk result
-        (text.new.items ≡ text.old.items ++ own_text setup.now clock.now.start index frames.now) }
+        (text.new.items ≡ text.old.items ++ own_text setup.now clock.now.start index frames.now.items) }
     ensures err { OnErr result (text.new.items ≡ text.old.items) }
     ensures names { writers.new.items ≡ writers.old.items }
 {
     let len = text.len();
-    for sent in frames {
-        if let Err(refused) = write_one(setup, clock, writers, index, sent, text) {
+    for place in 0..frames.len() {
+        let sent = frames.get(place);
+        if let Err(refused) = write_one(setup, clock, writers, index, &sent, text) {
             text.truncate(len);
             return Err(refused);
         }
@@ -216,7 +244,7 @@ fn write_batch(
     let len = text.len();
     for drawn in batch.as_slice() {
         let index = drawn.who.index();
-        if let Err(refused) = write_one(setup, clock, writers, index, &drawn.sent, text) {
+        if let Err(refused) = write_one(setup, clock, writers, index, &drawn.sent(), text) {
             text.truncate(len);
             return Err(refused);
         }
@@ -231,7 +259,7 @@ pub(crate) fn write_drawn(
     setup: &Setup,
     clock: &Clock,
     writers: &mut Vec<LineWriter>,
-    drawn: &[Vec<Sent>],
+    drawn: &[SentFrames],
     batch: &mut Vec<Drawn>,
     text: &mut Vec<u8>,
 ) -> Result<(), AllocError>

@@ -1,13 +1,15 @@
 -- Worked examples of the definitions, computed.
-use Rattle.std.proofs.Common.{◌≡◌, ℕ, List, [], ◌∷◌, ◌++◌, codes, refl}
+use Rattle.std.proofs.Common.{◌≡◌, ℕ, true, false, List, [], ◌∷◌, ◌++◌, codes, replicate, refl}
 use Rattle.std.specs.Fmt.{digits}
 use Rattle.std.specs.Prelude.{Option, Some, None, Result, Ok, Err}
 use Rattle.hex.proofs.OnLiterals.{hex_on_literals}
+use Rattle.diag_can.specs.declared.bus_line.BusLine.{BusLine}
 use Rattle.diag_can.specs.declared.bus_line.BusLine.TheVariants.{Stamped}
 use Rattle.diag_can.specs.declared.fault.LineFault.{LineFault}
 use Rattle.diag_can.specs.declared.fault.LineFault.TheVariants.{BadLine, BadTick, TooManyBytes}
 use Rattle.diag_can.specs.declared.fault.LogFault.TheVariants.{Line}
 use Rattle.diag_can.specs.declared.frame.Ids.{Ids}
+use Rattle.diag_can.specs.declared.frame.KnownId.{KnownId}
 use Rattle.diag_can.specs.declared.frame.Event.{Event}
 use Rattle.diag_can.specs.declared.frame.Event.TheVariants.{Physical, Functional, Ticks}
 use Rattle.diag_can.specs.declared.log.Timing.TheVariants.{Lines, Stamps}
@@ -25,6 +27,13 @@ framed text = codes "(0000000000.000000) can0 " ++ text
 
 abbrev of_line : List ℕ → Result (Option Event) LineFault
 of_line line = line_event line ids
+
+-- an identifier that is read, and one that is read by CAN FD too
+abbrev classic : ℕ → KnownId
+classic id = record { id = id; fd = false }
+
+abbrev by_fd : ℕ → KnownId
+by_fd id = record { id = id; fd = true }
 
 -- ---- the forms of a line
 
@@ -142,7 +151,7 @@ wide_frame = refl
 
 -- ---- identifiers of 29 bits
 
-known_wide_frame : line_says (extended 0x18DB33F1 ∷ []) (codes "(1.500000) can0 18db33F1#02")
+known_wide_frame : line_says (classic (extended 0x18DB33F1) ∷ []) (codes "(1.500000) can0 18db33F1#02")
     ≡ Ok (Stamped 1500 (Some (record { id = extended 0x18DB33F1; bytes = 0x02 ∷ [] })))
 unfolding hex_on_literals
 known_wide_frame = refl
@@ -173,6 +182,64 @@ error_frame = refl
 
 short_in_eight_digits : of_line (framed (codes "000007E0#zz")) ≡ Ok None
 short_in_eight_digits = refl
+
+-- ---- CAN FD
+
+abbrev fd_line : List ℕ → Result BusLine LineFault
+fd_line text = line_says (classic 0x7E8 ∷ by_fd 0x7E0 ∷ []) (codes "(1.500000) can0 7E0##" ++ text)
+
+-- what a line says of a frame with these bytes
+abbrev seen : List ℕ → Result BusLine LineFault
+seen bytes = Ok (Stamped 1500 (Some (record { id = 0x7E0; bytes = bytes })))
+
+fd_request : fd_line (codes "10322F190") ≡ seen (0x03 ∷ 0x22 ∷ 0xF1 ∷ 0x90 ∷ [])
+unfolding hex_on_literals
+fd_request = refl
+
+fd_of_a_classic_identifier : line_says (classic 0x7E0 ∷ []) (codes "(1.500000) can0 7E0##10322F190") ≡ Ok (Stamped 1500 None)
+fd_of_a_classic_identifier = refl
+
+fd_of_an_unknown_identifier : line_says (by_fd 0x7E0 ∷ []) (codes "(1.500000) can0 7E8##zz") ≡ Ok (Stamped 1500 None)
+fd_of_an_unknown_identifier = refl
+
+classic_frame_by_fd : line_says (by_fd 0x7E0 ∷ []) (codes "(1.500000) can0 7E0#023E00") ≡ seen (0x02 ∷ 0x3E ∷ 0x00 ∷ [])
+unfolding hex_on_literals
+classic_frame_by_fd = refl
+
+remote_frame_by_fd : line_says (by_fd 0x7E0 ∷ []) (codes "(1.500000) can0 7E0#R8") ≡ Ok (Stamped 1500 None)
+remote_frame_by_fd = refl
+
+fd_twelve_bytes : fd_line (codes "f000A22F190f18CCCCCCCCCCC R") ≡ seen (0x00 ∷ 0x0A ∷ 0x22 ∷ 0xF1 ∷ 0x90 ∷ 0xF1 ∷ 0x8C ∷ replicate 5 0xCC)
+unfolding hex_on_literals
+fd_twelve_bytes = refl
+
+fd_sixty_four_bytes : fd_line (codes "0" ++ replicate 128 48) ≡ seen (replicate 64 0)
+unfolding hex_on_literals
+fd_sixty_four_bytes = refl
+
+fd_odd_digits : fd_line (codes "10322F19") ≡ Err BadLine
+fd_odd_digits = refl
+
+fd_nine_bytes : fd_line (codes "1021003000000000000") ≡ Err BadLine
+fd_nine_bytes = refl
+
+fd_too_many_digits : fd_line (codes "1" ++ replicate 130 48) ≡ Err TooManyBytes
+fd_too_many_digits = refl
+
+fd_no_flags : fd_line [] ≡ Err BadLine
+fd_no_flags = refl
+
+fd_flags_alone : fd_line (codes "1") ≡ seen []
+unfolding hex_on_literals
+fd_flags_alone = refl
+
+fd_other_end : fd_line (codes "1023E00_9") ≡ Err BadLine
+fd_other_end = refl
+
+wide_fd_request : line_says (by_fd (extended 0x18DA10F1) ∷ []) (codes "(1.500000) can0 18DA10F1##1023E00")
+    ≡ Ok (Stamped 1500 (Some (record { id = extended 0x18DA10F1; bytes = 0x02 ∷ 0x3E ∷ 0x00 ∷ [] })))
+unfolding hex_on_literals
+wide_fd_request = refl
 
 -- ---- logs
 
@@ -221,16 +288,25 @@ long_time = refl
 -- ---- what is written
 
 first_reply :
-    reply_line (codes "A") 0 (record { id = 0x7E8; bytes = 0x06 ∷ 0x50 ∷ 0x03 ∷ 0x00 ∷ 0x32 ∷ 0x01 ∷ 0xF4 ∷ 0xCC ∷ [] })
+    reply_line (codes "A") None 0 (record { id = 0x7E8; bytes = 0x06 ∷ 0x50 ∷ 0x03 ∷ 0x00 ∷ 0x32 ∷ 0x01 ∷ 0xF4 ∷ 0xCC ∷ [] })
     ≡ codes "(0000000000.000000) A 7E8#065003003201F4CC\n"
 unfolding hex_on_literals digits
 first_reply = refl
 
-wide_reply : reply_line (codes "A") 0 (record { id = extended 0x18DAF110; bytes = 0x02 ∷ 0x7E ∷ 0x00 ∷ [] })
+wide_reply : reply_line (codes "A") None 0 (record { id = extended 0x18DAF110; bytes = 0x02 ∷ 0x7E ∷ 0x00 ∷ [] })
     ≡ codes "(0000000000.000000) A 18DAF110#027E00\n"
 unfolding hex_on_literals digits
 wide_reply = refl
 
-late_reply : reply_line (codes "B") 5003 (record { id = 0x7E; bytes = 0x30 ∷ [] }) ≡ codes "(0000000005.003000) B 07E#30\n"
+late_reply : reply_line (codes "B") None 5003 (record { id = 0x7E; bytes = 0x30 ∷ [] }) ≡ codes "(0000000005.003000) B 07E#30\n"
 unfolding hex_on_literals digits
 late_reply = refl
+
+fd_reply : reply_line (codes "A") (Some 1) 0 (record { id = 0x7E8; bytes = 0x00 ∷ 0x0A ∷ 0x62 ∷ replicate 9 0xCC })
+    ≡ codes "(0000000000.000000) A 7E8##1000A62CCCCCCCCCCCCCCCCCC\n"
+unfolding hex_on_literals digits
+fd_reply = refl
+
+wide_fd_reply : reply_line (codes "A") (Some 15) 0 (record { id = extended 0x18DAF110; bytes = [] }) ≡ codes "(0000000000.000000) A 18DAF110##F\n"
+unfolding hex_on_literals digits
+wide_fd_reply = refl

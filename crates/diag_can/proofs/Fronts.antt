@@ -16,6 +16,7 @@ use Rattle.diag_can.specs.Log.{is_feed, without_return}
 use Rattle.diag_can.specs.Stamp.{behind, is_mark, is_no_space}
 use Rattle.diag_can.specs.Usual.{BeginsFramed, IsUsual}
 use Rattle.diag_can.specs.declared.bus_line.BusLine.{BusLine}
+use Rattle.diag_can.specs.declared.frame.KnownId.{KnownId}
 use Rattle.diag_can.proofs.UsualLines.{bus_line-short, usual_parts}
 use Rattle.diag_can.proofs.Windows.{back_least, back_most, framed_within, front_least, front_most}
 
@@ -176,7 +177,7 @@ module _ (text : List ℕ) (place count : ℕ) (f : BeginsFramed text place) (ru
 
     -- it is the first line, whatever stands in front of its LF
     is_first : (said : BusLine) (whole after : List ℕ) → text ≡ whole ++ 10 ∷ after → HasNoFeed whole → length whole ≤ end + 1 → line ≡ without_return whole
-        → ((known : List ℕ) → line_says known line ≡ Ok said) → IsFirstLine text (take (length text - length after - 1) text) after (Some said)
+        → ((known : List KnownId) → line_says known line ≡ Ok said) → IsFirstLine text (take (length text - length after - 1) text) after (Some said)
     is_first said whole after is none short same says =
         let fits : length whole ≤ 4096 = omega (arith, short, f.before, run.in_range) in
         subst (λ (w : List ℕ). IsFirstLine text w after (Some said)) (sym (front_is text whole after is)) (record {
@@ -187,7 +188,7 @@ module _ (text : List ℕ) (place count : ℕ) (f : BeginsFramed text place) (ru
 
     -- with an LF behind it, or a CR and an LF
     pub front_line : (said : BusLine) (after : List ℕ) → (drop end text ≡ 10 ∷ after) ⊎ (drop end text ≡ 13 ∷ 10 ∷ after)
-        → ((known : List ℕ) → line_says known line ≡ Ok said) → IsFirstLine text (take (length text - length after - 1) text) after (Some said)
+        → ((known : List KnownId) → line_says known line ≡ Ok said) → IsFirstLine text (take (length text - length after - 1) text) after (Some said)
     front_line said after (inl feed) says =
         is_first said line after (sym (take-append-drop end text) ∙ ap (λ (t : List ℕ). line ++ t) feed) line_plain (omega (arith, long)) (sym without_cr) says
     front_line said after (inr ends) says =

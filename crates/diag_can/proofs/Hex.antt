@@ -15,7 +15,7 @@ use Rattle.std.specs.Str.{bytes_eq}
 use Rattle.hex.specs.Hex.{encode_upper, encode_with, upper_digits}
 use Rattle.hex.proofs.HexLemmas.{length-encode_with}
 use Rattle.diag_can.specs.Identifier.{number_of}
-use Rattle.diag_can.specs.Reply.{zero_filled, four_bytes, id_text, name_text}
+use Rattle.diag_can.specs.Reply.{zero_filled, four_bytes, id_text}
 use Rattle.std.proofs.lemmas.Slice.{take-put_mid}
 use borrow.Rule.Slice.PartMut.{put_mid}
 use Rattle.diag_can.specs.declared.table.TheConstants.{DIGITS}
@@ -83,6 +83,13 @@ unfolding digits encode_with
 three_digits n below =
     (bytes_eq-Decides (zero_filled 3 (digits 16 true n)) (three n)).0
     (agree_below_at (λ n. bytes_eq (zero_filled 3 (digits 16 true n)) (three n)) (λ n. true) 2048 n refl below)
+
+-- the digit of four bits
+pub flags_digit : (n : ℕ) → n < 16 → digits 16 true n ≡ get_or (encode_upper (n ∷ [])) 1 0 ∷ []
+unfolding digits encode_with
+flags_digit n below =
+    (bytes_eq-Decides (digits 16 true n) (get_or (encode_upper (n ∷ [])) 1 0 ∷ [])).0
+    (agree_below_at (λ n. bytes_eq (digits 16 true n) (get_or (encode_upper (n ∷ [])) 1 0 ∷ [])) (λ n. true) 16 n refl below)
 
 -- those digits, one by one
 pub three_parts : (id text : List ℕ) (n : ℕ) → n < 2048 → id ≡ zero_filled 3 (digits 16 true n)
@@ -181,23 +188,24 @@ ends_written old first cut all digits ends bytes end some few e d f b c a =
 
 -- ---- the front of a reply line behind its stamp
 
--- a name, and behind it a space, the digits of an identifier and a mark, written over some bytes
-pub front_is : (name copied rest five id : List ℕ) (k n : ℕ) → copied ≡ name → five ≡ 32 ∷ get_or id 0 0 ∷ get_or id 1 0 ∷ get_or id 2 0 ∷ 35 ∷ []
-    → n < 2048 → id ≡ zero_filled 3 (digits 16 true n)
-    → take (length name + 5) (put_mid (length name) k (copied ++ rest) five) ≡ name_text name n
-front_is name copied rest five id k n same written below is =
-    let short : nat_lt n 2048 ≡ true = grind (arith, nat_tests) in
-    let text : List ℕ = 32 ∷ get_or id 0 0 ∷ get_or id 1 0 ∷ get_or id 2 0 ∷ 35 ∷ [] in
-    let digits_are : List ℕ = zero_filled 3 (digits 16 true n) in
+-- a name and what stands behind it, written over some bytes
+pub front_is : (name copied rest behind : List ℕ) (k : ℕ) → copied ≡ name
+    → take (length name + length behind) (put_mid (length name) k (copied ++ rest) behind) ≡ name ++ behind
+front_is name copied rest behind k same =
     let count = ap length same in
-    rw short (rw written (take-put_mid (length name) k (copied ++ rest) text (length name + 5) refl (omega (arith, count, length-append copied rest)))
-    ∙ ap (λ (t : List ℕ). t ++ text) (take_at copied rest (length name) count ∙ same)
-    ∙ ap (λ (t : List ℕ). name ++ 32 ∷ t) (three_parts id (35 ∷ []) n below is)
-    ∙ sym (append_assoc (name ++ 32 ∷ []) digits_are (35 ∷ []) ∙ append_assoc name (32 ∷ []) (digits_are ++ 35 ∷ [])))
+    take-put_mid (length name) k (copied ++ rest) behind (length name + length behind) refl (omega (arith, count, length-append copied rest))
+    ∙ ap (λ (t : List ℕ). t ++ behind) (take_at copied rest (length name) count ∙ same)
 
 -- the text of an identifier of 11 bits
 pub short_text : (n : ℕ) → n < 2048 → id_text n ≡ zero_filled 3 (digits 16 true n)
 short_text n below = let short : nat_lt n 2048 ≡ true = grind (arith, nat_tests) in rw short refl
+
+-- a name, a space, the digits of an identifier of 11 bits and what stands behind them
+pub id_front : (name id mark : List ℕ) (n : ℕ) → n < 2048 → id ≡ zero_filled 3 (digits 16 true n)
+    → name ++ 32 ∷ get_or id 0 0 ∷ get_or id 1 0 ∷ get_or id 2 0 ∷ mark ≡ name ++ codes " " ++ id_text n ++ mark
+id_front name id mark n below is =
+    ap (λ (t : List ℕ). name ++ 32 ∷ t) (three_parts id mark n below is ∙ ap (λ (t : List ℕ). t ++ mark) (sym (short_text n below)))
+    ∙ sym (append_assoc (name ++ 32 ∷ []) (id_text n) mark ∙ append_assoc name (32 ∷ []) (id_text n ++ mark))
 
 -- the text of one of 29 bits
 pub wide_text : (n : ℕ) → 2048 ≤ n → id_text n ≡ encode_upper (four_bytes (number_of n))
@@ -210,16 +218,16 @@ pub four_pairs : (p q r s : List ℕ) (i j k l : ℕ) → p ≡ encode_upper (i 
 unfolding encode_with
 four_pairs p q r s i j k l a b c d = rw (a, b, c, d) refl
 
--- an identifier's text between a space and a mark, put together from its parts
-pub id_parts : (old id a b c : List ℕ) → a ≡ old ++ codes " " → b ≡ a ++ id → c ≡ b ++ codes "#" → c ≡ old ++ (codes " " ++ id ++ codes "#")
-id_parts old id a b c p q r = rw (r, q, p) (simp append_assoc)
+-- a line is put together from its parts, one by one
+pub line_pieces : (old stamped name id mark hex a b c d e f : List ℕ) → a ≡ old → b ≡ a ++ (stamped ++ codes " ") → c ≡ b ++ name → d ≡ c ++ (codes " " ++ id)
+    → e ≡ d ++ mark → f ≡ e ++ (hex ++ codes "\n") → f ≡ old ++ (stamped ++ codes " " ++ name ++ codes " " ++ (id ++ mark ++ hex) ++ codes "\n")
+line_pieces old stamped name id mark hex a b c d e f p q r s t u = rw (u, t, s, r, q, p) (simp append_assoc)
 
--- a frame's text, put together from its parts
-pub frame_parts : (old id hex a b : List ℕ) → a ≡ old ++ (codes " " ++ id ++ codes "#") → b ≡ a ++ (hex ++ codes "\n")
-    → b ≡ old ++ (codes " " ++ (id ++ codes "#" ++ hex) ++ codes "\n")
-frame_parts old id hex a b p q = rw (q, p) (simp append_assoc)
+-- with a front that is kept
+pub line_parts : (old stamped name id mark hex a b c d : List ℕ) → a ≡ old → b ≡ a ++ (stamped ++ codes " ") → c ≡ b ++ (name ++ codes " " ++ id ++ mark)
+    → d ≡ c ++ (hex ++ codes "\n") → d ≡ old ++ (stamped ++ codes " " ++ name ++ codes " " ++ (id ++ mark ++ hex) ++ codes "\n")
+line_parts old stamped name id mark hex a b c d p q r s = rw (s, r, q, p) (simp append_assoc)
 
--- a line is put together from its parts
-pub line_parts : (old stamped name id hex a b c d : List ℕ) → a ≡ old → b ≡ a ++ (stamped ++ codes " ") → c ≡ b ++ (name ++ codes " " ++ id ++ codes "#")
-    → d ≡ c ++ (hex ++ codes "\n") → d ≡ old ++ (stamped ++ codes " " ++ name ++ codes " " ++ (id ++ codes "#" ++ hex) ++ codes "\n")
-line_parts old stamped name id hex a b c d p q r s = rw (s, r, q, p) (simp append_assoc)
+-- what was put behind a text is taken off
+pub taken_off : (old x y a b c cut : List ℕ) (n : ℕ) → n ≡ length old → a ≡ old → b ≡ a ++ x → c ≡ b ++ y → cut ≡ take n c → cut ≡ old
+taken_off old x y a b c cut n size p q r s = rw (s, r, q, p, append_assoc) (take_at old (x ++ y) n (sym size))

@@ -1,5 +1,5 @@
 -- The bytes of hex digits that are looked at together.
-use Rattle.std.proofs.Common.{◌≡◌, ℕ, zero, suc, ◌+◌, ◌-◌, ◌*◌, ◌/◌, ◌%◌, ◌<◌, ◌≤◌, eqb, leb, true, cond, List, [], ◌∷◌, ◌++◌, append-nil, take-append-drop, map, length, length-take-le, take, drop, get_or, replicate, Fits, w8, length-drop, drop-drop, unwrap_or, is_some, Option, Some, None, Ok, refl, sym, ap, subst, ◌∙◌, arith}
+use Rattle.std.proofs.Common.{◌≡◌, ℕ, zero, suc, ◌+◌, ◌-◌, ◌*◌, ◌%◌, ◌<◌, ◌≤◌, eqb, leb, true, cond, List, [], ◌∷◌, ◌++◌, append-nil, take-append-drop, map, length, length-take-le, take, drop, get_or, replicate, Fits, w8, length-drop, drop-drop, unwrap_or, is_some, Option, Some, None, Ok, refl, sym, ap, subst, ◌∙◌, arith}
 use Rattle.std.specs.Prelude.{IsOk}
 use Rattle.std.specs.List.{AllPass}
 use Rattle.std.proofs.lemmas.Bool.{agree_below_at, eqb-true}
@@ -24,7 +24,7 @@ lane-is c v byte is =
     sym (eqb-true _ _ tested) ∙ ap (λ (o : Option ℕ). unwrap_or o (lane c)) is
 
 -- the bytes of the pairs
-abbrev both : List ℕ → List ℕ
+abbrev pub both : List ℕ → List ℕ
 both [] = []
 both (c ∷ []) = []
 both (c ∷ d ∷ text) = ((lane c * 16 % 256 + lane d) % 256) ∷ both text
@@ -55,6 +55,22 @@ drop-both zero text = refl
 drop-both (suc k) [] = let more : 2 * suc k ≡ suc (suc (2 * k)) = omega arith in rw more refl
 drop-both (suc k) (c ∷ []) = let more : 2 * suc k ≡ suc (suc (2 * k)) = omega arith in rw more refl
 drop-both (suc k) (c ∷ d ∷ text) = let more : 2 * suc k ≡ suc (suc (2 * k)) = omega arith in rw more (drop-both k text)
+
+take-both : (k : ℕ) (text : List ℕ) → take k (both text) ≡ both (take (2 * k) text)
+take-both zero text = refl
+take-both (suc k) [] = let more : 2 * suc k ≡ suc (suc (2 * k)) = omega arith in rw more refl
+take-both (suc k) (c ∷ []) = let more : 2 * suc k ≡ suc (suc (2 * k)) = omega arith in rw more refl
+take-both (suc k) (c ∷ d ∷ text) =
+    let more : 2 * suc k ≡ suc (suc (2 * k)) = omega arith in
+    rw more (ap (λ (bytes : List ℕ). ((lane c * 16 % 256 + lane d) % 256) ∷ bytes) (take-both k text))
+
+-- those of sixteen digits, and of the others
+pub both-sixteen : (text : List ℕ) → both (take 16 text) ++ both (drop 16 text) ≡ both text
+both-sixteen text = (λ i. sym (take-both 8 text) i ++ sym (drop-both 8 text) i) ∙ take-append-drop 8 (both text)
+
+pub decode_of-both : (text : List ℕ) → length text % 2 ≡ 0 → AllPass is_hex_digit text → ((k : ℕ) → k < length text → Fits w8 (get_or text k 0))
+    → decode_of text ≡ Ok (both text)
+decode_of-both text even all fits = decode_of-even text even ∙ decode-both 0 text even all fits
 
 -- what the lanes make of sixteen digits
 abbrev values : List ℕ → List ℕ

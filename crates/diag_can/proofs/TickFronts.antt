@@ -1,5 +1,5 @@
 -- A well `tick` line at the front of a text.
-use Rattle.std.proofs.Common.{◌≡◌, ◌==◌, ◌&&◌, ◌⊎◌, ℕ, suc, ◌+◌, ◌-◌, ◌<◌, ◌≤◌, nat_lt, Bool, true, false, cond, List, [], ◌∷◌, ◌++◌, append_assoc, length, length-append, take, drop, get_or, Some, None, Ok, refl, subst, sym, ap, ◌∙◌, add-one, arith, inl, inr, drop-cons, get_or-take, take-append-drop, length-take-le}
+use Rattle.std.proofs.Common.{◌≡◌, ◌==◌, ◌&&◌, ◌⊎◌, ℕ, ◌+◌, ◌-◌, ◌<◌, ◌≤◌, Bool, true, false, cond, List, [], ◌∷◌, ◌++◌, append_assoc, length, length-append, take, drop, get_or, Some, None, Ok, refl, subst, sym, ap, ◌∙◌, add-one, arith, inl, inr, drop-cons, get_or-take, take-append-drop, length-take-le}
 use Rattle.std.specs.List.{AllPass, list_all, prefix_len}
 use Rattle.std.specs.Prelude.{All, not}
 use Rattle.std.proofs.lemmas.Bool.{cases_Bool, eqb-true}
@@ -11,6 +11,7 @@ use Rattle.diag_can.specs.Line.{is_decimal, line_says, tick_count, ticks_of}
 use Rattle.diag_can.specs.Log.{is_feed, without_return}
 use Rattle.diag_can.specs.Stamp.{behind, decimal_value, is_digit}
 use Rattle.diag_can.specs.declared.bus_line.BusLine.TheVariants.{Ticks}
+use Rattle.diag_can.specs.declared.frame.KnownId.{KnownId}
 use Rattle.diag_can.proofs.Fronts.{front_is, without_its_cr}
 use Rattle.diag_can.proofs.Runs.{run-passes}
 use Rattle.diag_can.proofs.UsualLines.{bus_line-short}
@@ -108,7 +109,7 @@ module _ (rest after : List ℕ) (len count : ℕ) (well : tick_count (take len 
   size : length line ≡ len + 4
   size = omega (arith, length-take-le len rest fits)
 
-  line_is : (known : List ℕ) → line_says known line ≡ Ok (Ticks count)
+  line_is : (known : List KnownId) → line_says known line ≡ Ok (Ticks count)
   line_is known = rw well refl
 
   is_front : (whole : List ℕ) → text ≡ whole ++ 10 ∷ after → HasNoFeed whole → length whole ≤ 4096 → without_return whole ≡ line

@@ -1,17 +1,17 @@
 -- Lines of the usual form.
-use Rattle.std.proofs.Common.{◌≡◌, ℕ, ◌+◌, ◌-◌, ◌/◌, ◌*◌, ◌%◌, ◌<◌, ◌≤◌, ◌==◌, ◌&&◌, ◌||◌, nat_le, nat_lt, Bool, true, false, cond, List, [], ◌∷◌, length, take, drop, get_or, Option, Some, None, Ok, Err, refl, sym, ap, ◌∙◌, arith, add-one, length-drop, drop-drop, drop-cons, inl, inr}
+use Rattle.std.proofs.Common.{◌≡◌, ℕ, ◌+◌, ◌-◌, ◌/◌, ◌*◌, ◌%◌, ◌<◌, ◌≤◌, ◌==◌, ◌&&◌, nat_le, nat_lt, Bool, true, false, cond, List, [], ◌∷◌, length, take, drop, get_or, Option, Some, Ok, Err, refl, sym, ap, ◌∙◌, arith, add-one, length-drop, drop-drop, drop-cons}
 use Rattle.std.specs.Prelude.{IsOk}
 use Rattle.std.specs.List.{AllPass, prefix_len}
-use Rattle.std.proofs.lemmas.Bool.{eq-eqb, ne_eqb, not-true, not-false, eqb-true, cases_eq}
+use Rattle.std.proofs.lemmas.Bool.{eq-eqb, ne_eqb, not-true, not-false, eqb-true}
 use Rattle.std.proofs.lemmas.Bool.Decides.{nat_tests}
 use Rattle.std.proofs.lemmas.List.{get_or-drop, take_all, drop_all, length-take-le}
-use Rattle.std.proofs.lemmas.List.Sums.{prefix_len-le-length, prefix_len_is}
+use Rattle.std.proofs.lemmas.List.Sums.{prefix_len_is}
 use Rattle.std.proofs.lemmas.List.Elements.{All-from_get_or}
 use Rattle.hex.specs.Hex.{is_hex_digit, decode_of}
 use Rattle.hex.proofs.HexLemmas.{decode_of-digits}
 use Rattle.diag_can.specs.Stamp.{is_digit, is_space, is_no_space, behind, behind_run, digits_of, moment_of}
 use Rattle.diag_can.specs.declared.bus_line.BusLine.TheVariants.{Stamped}
-use Rattle.diag_can.specs.Line.{line_says, stamped, stamped_frame, is_time, is_passed_over, is_well_ended, data_frame, frame_data, frame_of, text_frame, id_of}
+use Rattle.diag_can.specs.Line.{line_says, stamped, stamped_frame, is_time, data_frame, frame_data, frame_of, text_frame, id_of}
 use Rattle.diag_can.specs.BusLine.{bus_line}
 use Rattle.diag_can.specs.Lanes.{IsRunIn}
 use Rattle.diag_can.specs.Log.{without_return}
@@ -21,7 +21,7 @@ use Rattle.diag_can.specs.MomentText.{usual_moment}
 use Rattle.diag_can.specs.declared.bus_line.BusLine.{BusLine}
 use Rattle.diag_can.specs.declared.fault.LineFault.TheVariants.{BadLine}
 use Rattle.diag_can.specs.declared.frame.Frame.{Frame}
-use Rattle.diag_can.proofs.Runs.{run-passes}
+use Rattle.diag_can.specs.declared.frame.KnownId.{KnownId}
 
 -- ---- parts of a line, by the bytes that stand there
 
@@ -107,40 +107,38 @@ data_from_digits rest bytes all few even is =
     let taken = take_all (length rest) rest (omega arith) in
     rw (count, fits, whole, none, taken, is) refl
 
-no_mark : (c : ℕ) → is_hex_digit c ≡ true → ((c == 35) || (c == 82)) ≡ false
-no_mark c digit =
-    elim (cases_eq c 35) [
-      | inl hash ↦ cc (sym (ap is_hex_digit hash) ∙ digit)
-      | inr other ↦ elim (cases_eq c 82) [
-        | inl remote ↦ cc (sym (ap is_hex_digit remote) ∙ digit)
-        | inr plain ↦ let first = ne_eqb c 35 other in let second = ne_eqb c 82 plain in rw (first, second) refl
-      ]
-    ]
+-- a hex digit is no mark of another frame
+no_mark : (c : ℕ) → is_hex_digit c ≡ true → ((c == 35) ≡ false) × ((c == 82) ≡ false)
+no_mark c digit = (ne_eqb c 35 (λ e. cc (sym (ap is_hex_digit e) ∙ digit)), ne_eqb c 82 (λ e. cc (sym (ap is_hex_digit e) ∙ digit)))
 
-not_passed : (rest : List ℕ) → AllPass is_hex_digit rest → is_passed_over rest ≡ false
-not_passed [] all = refl
-not_passed (c ∷ rest) all = no_mark c (all 0 0 (omega arith))
+data_frame-digits : (known : List KnownId) (id : ℕ) (rest : List ℕ) → AllPass is_hex_digit rest → data_frame known id rest ≡ frame_of id (frame_data rest)
+data_frame-digits known id [] all = refl
+data_frame-digits known id (c ∷ rest) all =
+    let marks = no_mark c (all 0 0 (omega arith)) in
+    let hash = marks.0 in
+    let remote = marks.1 in
+    rw (hash, remote) refl
 
 three_of : (text : List ℕ) → 4 ≤ length text → (length (take 3 text) == 8) ≡ false
 three_of text le = let three = length-take-le 3 text (omega arith) in rw three refl
 
-module _ (known text rest : List ℕ) (id : ℕ) (run : prefix_len is_hex_digit text ≡ 3) (long : 4 ≤ length text) (is : id_of (take 3 text) ≡ Some id)
+module _ (known : List KnownId) (text rest : List ℕ) (id : ℕ) (run : prefix_len is_hex_digit text ≡ 3) (long : 4 ≤ length text) (is : id_of (take 3 text) ≡ Some id)
     (hash : behind 35 (drop 3 text) ≡ Some rest)
     (all : AllPass is_hex_digit rest) where
   text_frame-is : text_frame known text ≡ frame_of id (frame_data rest)
-  text_frame-is = let short = three_of text long in let data_only = not_passed rest all in rw (run, hash, short, is, data_only) refl
+  text_frame-is = let short = three_of text long in rw (run, hash, short, is) (data_frame-digits known id rest all)
 
-is_ok-from : (rest bytes : List ℕ) → decode_of rest ≡ Ok bytes → IsOk (decode_of rest)
+pub is_ok-from : (rest bytes : List ℕ) → decode_of rest ≡ Ok bytes → IsOk (decode_of rest)
 is_ok-from rest bytes is = rw is refl
 
 -- what a line says whose stamp and name were read
-pub framed_line : (known line text : List ℕ) (moment : ℕ) → 0 < length line → is_time line ≡ false → stamped_frame line ≡ Some (moment, text)
+pub framed_line : (known : List KnownId) (line text : List ℕ) (moment : ℕ) → 0 < length line → is_time line ≡ false → stamped_frame line ≡ Some (moment, text)
     → line_says known line ≡ stamped moment (text_frame known text)
 framed_line known [] text moment long plain stamp = absurd (omega arith)
 framed_line known (c ∷ line) text moment long plain stamp = rw (plain, stamp) refl
 
 -- and its frame
-stamped_says : (known line text : List ℕ) (moment : ℕ) (frame : Option Frame) → 0 < length line → is_time line ≡ false → stamped_frame line ≡ Some (moment, text)
+stamped_says : (known : List KnownId) (line text : List ℕ) (moment : ℕ) (frame : Option Frame) → 0 < length line → is_time line ≡ false → stamped_frame line ≡ Some (moment, text)
     → text_frame known text ≡ Ok frame → line_says known line ≡ Ok (Stamped moment frame)
 stamped_says known line text moment frame long plain stamp is = framed_line known line text moment long plain stamp ∙ ap (stamped moment) is
 
@@ -179,7 +177,7 @@ module _ (line : List ℕ) (place id : ℕ) (u : IsUsual line place id) where
       record { few = omega arith; inside = omega arith; hex = rw same (is_ok-from rest value.0 value.1) }
 
   -- what it says
-  pub says : (known : List ℕ) → line_says known line ≡ Ok (Stamped (usual_moment line) (Some (record { id = id; bytes = last_bytes line count })))
+  pub says : (known : List KnownId) → line_says known line ≡ Ok (Stamped (usual_moment line) (Some (record { id = id; bytes = last_bytes line count })))
   says known =
       let text : List ℕ = drop place line in
       let inside = u.inside in
@@ -213,38 +211,16 @@ usual_parts line place id text framed cut run is hash long few even digits =
 
 -- ---- as a whole line of a capture
 
-pub bus_line-short : (known piece line : List ℕ) (said : BusLine) → length piece ≤ 4096 → line ≡ without_return piece → line_says known line ≡ Ok said
+pub bus_line-short : (known : List KnownId) (piece line : List ℕ) (said : BusLine) → length piece ≤ 4096 → line ≡ without_return piece → line_says known line ≡ Ok said
     → bus_line known piece ≡ Ok said
 bus_line-short known piece line said short same says =
     let not_long : nat_lt 4096 (length piece) ≡ false = grind (arith, nat_tests) in
     rw not_long (ap (line_says known) (sym same) ∙ says)
 
 -- a line that says something isn't too long
-pub bus_line-says : (known piece : List ℕ) (said : BusLine) → bus_line known piece ≡ Ok said → line_says known (without_return piece) ≡ Ok said
+pub bus_line-says : (known : List KnownId) (piece : List ℕ) (said : BusLine) → bus_line known piece ≡ Ok said → line_says known (without_return piece) ≡ Ok said
 bus_line-says known piece said =
     elim (nat_lt 4096 (length piece)) as (λ b. cond b (Err BadLine) (line_says known (without_return piece)) ≡ Ok said → line_says known (without_return piece) ≡ Ok said) [
       | true ↦ λ is. cc is
       | false ↦ λ is. is
     ]
-
--- ---- data behind an identifier
-
--- digits alone that end well
-pub digits_frame-is : (rest : List ℕ) (id count : ℕ) → is_passed_over rest ≡ false → count ≡ prefix_len is_hex_digit rest → count ≤ 16 → count % 2 ≡ 0
-    → is_well_ended count (drop count rest) ≡ true
-    → EndsInBytes (take count rest) (count / 2)
-    × (data_frame id rest ≡ Ok (Some (record { id = id; bytes = last_bytes (take count rest) (count / 2) })))
-digits_frame-is rest id count is_data run few even ends =
-    let text : List ℕ = take count rest in
-    let fits : count ≤ length rest = omega (arith, run, prefix_len-le-length is_hex_digit rest) in
-    let size : length text ≡ count = length-take-le count rest fits in
-    let all : AllPass is_hex_digit text = rw run (run-passes is_hex_digit rest) in
-    let value = decode_of-digits text (ap (λ (n : ℕ). n % 2) size ∙ even) all in
-    let at : length text - 2 * (count / 2) ≡ 0 = omega (arith, size) in
-    let same : last_digits text (count / 2) ≡ text = ap (λ (n : ℕ). drop n text) at in
-    let below : nat_lt 16 count ≡ false = grind (arith, nat_tests) in
-    let whole : (count % 2 == 1) ≡ false = grind (arith, nat_tests) in
-    let bytes : last_bytes text (count / 2) ≡ value.0 = ap bytes_or_none (ap decode_of same ∙ value.1) in (
-      record { few = omega arith; inside = omega (arith, size); hex = rw same (is_ok-from text value.0 value.1) },
-      rw (is_data, ← run, below, whole, ends, value.1, bytes) refl,
-    )

@@ -2,10 +2,10 @@
 use Rattle.std.proofs.Common.{◌≡◌, ℕ, ◌+◌, ◌*◌, ◌^◌, ◌<◌, ◌≤◌, nat_lt, true, false, List, [], ◌∷◌, length, get_or, Option, Some, None, inl, inr, refl, subst, arith}
 use Rattle.std.specs.Prelude.{◌↔◌, ◌==◌, IsSome, IfSome, Ok, if◌then◌else◌}
 use Rattle.std.proofs.lemmas.Bool.{cases_lt, ne_eqb, or_parts}
-use Rattle.std.specs.List.{list_any}
 use Rattle.std.proofs.lemmas.Bool.Decides.{nat_tests}
 use Rattle.diag_can.specs.Identifier.{extended, is_extended}
-use Rattle.diag_can.specs.Line.{four_value, is_among, wide_frame, wide_id_of}
+use Rattle.diag_can.specs.Line.{four_value, has_extended, is_among, wide_frame, wide_id_of}
+use Rattle.diag_can.specs.declared.frame.KnownId.{KnownId}
 
 -- what is made of a number
 made : (o : Option ℕ) (n m : ℕ) → (IsSome o ↔ (n < m)) → IfSome o (λ id. id ≡ extended n) → o ≡ (if nat_lt n m then Some (extended n) else None)
@@ -58,14 +58,14 @@ eight_or_none (a ∷ b ∷ c ∷ d ∷ e ∷ f ∷ g ∷ h ∷ i ∷ digits) id 
 
 -- ---- no identifier of 29 bits is known
 
-not_among : (known : List ℕ) (n : ℕ) → list_any is_extended known ≡ false → is_among known (extended n) ≡ false
+not_among : (known : List KnownId) (n : ℕ) → has_extended known ≡ false → is_among known (extended n) ≡ false
 not_among [] n none = refl
 not_among (k ∷ known) n none =
-    let parts = or_parts (is_extended k) (list_any is_extended known) none in
-    let short : (k == extended n) ≡ false = (let below : k < 2048 = grind (arith, nat_tests, parts.0) in ne_eqb k (extended n) (λ same. omega (arith, below, same))) in
+    let parts = or_parts (is_extended k.id) (has_extended known) none in
+    let short : (k.id == extended n) ≡ false = (let below : k.id < 2048 = grind (arith, nat_tests, parts.0) in ne_eqb k.id (extended n) (λ same. omega (arith, below, same))) in
     rw (short, not_among known n parts.1) refl
 
-wide_none : (o : Option ℕ) (digits : List ℕ) → wide_id_of digits ≡ o → (known rest : List ℕ) → list_any is_extended known ≡ false
+wide_none : (o : Option ℕ) (digits : List ℕ) → wide_id_of digits ≡ o → (known : List KnownId) (rest : List ℕ) → has_extended known ≡ false
     → wide_frame known o rest ≡ Ok None
 wide_none None digits is known rest none = refl
 wide_none (Some id) digits is known rest none =
@@ -73,5 +73,5 @@ wide_none (Some id) digits is known rest none =
     let other : is_among known id ≡ false = subst (λ i. is_among known i ≡ false) wide.1 (not_among known wide.0 none) in
     rw other refl
 
-pub passed_over : (known digits rest : List ℕ) → list_any is_extended known ≡ false → wide_frame known (wide_id_of digits) rest ≡ Ok None
+pub passed_over : (known : List KnownId) (digits rest : List ℕ) → has_extended known ≡ false → wide_frame known (wide_id_of digits) rest ≡ Ok None
 passed_over known digits rest none = wide_none (wide_id_of digits) digits refl known rest none

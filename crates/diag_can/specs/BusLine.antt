@@ -6,9 +6,10 @@ use Rattle.diag_can.specs.Log.{is_feed, without_return}
 use Rattle.diag_can.specs.declared.bus_line.BusLine.{BusLine}
 use Rattle.diag_can.specs.declared.fault.LineFault.{LineFault}
 use Rattle.diag_can.specs.declared.fault.LineFault.TheVariants.{BadLine}
+use Rattle.diag_can.specs.declared.frame.KnownId.{KnownId}
 
--- what a whole line says, its LF not counted: one of more than 4096 bytes is a bad line. Of the identifiers of 29 bits these are read
-abbrev pub bus_line : List ℕ → List ℕ → Result BusLine LineFault
+-- what a whole line says, its LF not counted: one of more than 4096 bytes is a bad line. These identifiers are read
+abbrev pub bus_line : List KnownId → List ℕ → Result BusLine LineFault
 bus_line known piece = if nat_lt 4096 (length piece) then Err BadLine else line_says known (without_return piece)
 
 -- ---- lines of a text
@@ -30,11 +31,11 @@ abbrev pub HasNoFeed : List ℕ → Type 0
 HasNoFeed line = All (λ c. is_feed c ≡ false) line
 
 -- the first line of a text without its line feed, what follows that, and what the line says where that is known: that doesn't
--- depend on which identifiers of 29 bits are read
+-- depend on which identifiers are read
 pub record IsFirstLine (text line after : List ℕ) (said : Option BusLine) : Type 0 where
   pub is : text ≡ line ++ 10 ∷ after
   pub plain : HasNoFeed line
-  pub says : IfSome said (λ said. (known : List ℕ) → bus_line known line ≡ Ok said)
+  pub says : IfSome said (λ said. (known : List KnownId) → bus_line known line ≡ Ok said)
 
 abbrev pub front_pieces : List (List ℕ) → List (List ℕ)
 front_pieces [] = []

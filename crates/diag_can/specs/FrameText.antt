@@ -17,11 +17,11 @@ last_bytes text count = bytes_or_none (decode_of (last_digits text count))
 
 -- so many bytes are written at the end of the text
 pub record EndsInBytes (text : List ℕ) (count : ℕ) : Type 0 where
-  pub few : count ≤ 8
+  pub few : count ≤ 64
   pub inside : 2 * count ≤ length text
   pub hex : IsOk (decode_of (last_digits text count))
 
--- the last of these eight bytes are those at the end of the text, as many as are written there
+-- the last of these eight bytes are those at the end of the text, as many as are written there, where they are no more
 abbrev pub IsLastEight : List ℕ → List ℕ → Type 0
-IsLastEight text eight = (count : ℕ) → EndsInBytes text count
+IsLastEight text eight = (count : ℕ) → EndsInBytes text count → count ≤ 8
     → decode_of (last_digits text count) ≡ Ok (drop (8 - count) eight)

@@ -1,5 +1,5 @@
 -- The line of a frame that a tester was sent, in candump's log notation.
-use Rattle.std.specs.Prelude.{ℕ, ◌+◌, ◌-◌, ◌/◌, ◌%◌, ◌^◌, nat_lt, if◌then◌else◌, codes, true, List, [], ◌∷◌, ◌++◌, length, replicate}
+use Rattle.std.specs.Prelude.{ℕ, ◌+◌, ◌-◌, ◌/◌, ◌%◌, ◌^◌, nat_lt, ◌<◌, IfSome, if◌then◌else◌, codes, true, List, [], ◌∷◌, ◌++◌, length, replicate, Option, Some, None}
 use Rattle.std.specs.Fmt.{decimal, digits}
 use Rattle.hex.specs.Hex.{encode_upper}
 use Rattle.diag_can.specs.Identifier.{number_of}
@@ -36,15 +36,24 @@ id_text id =
     then zero_filled 3 (digits 16 true id)
     else encode_upper (four_bytes (number_of id))
 
+-- what stands between an identifier and the bytes: `#`, or for a frame of CAN FD with these flags `##` and a digit of them
+abbrev pub mark_text : Option ℕ → List ℕ
+mark_text None = codes "#"
+mark_text (Some flags) = codes "##" ++ digits 16 true flags
+
 -- the identifier and the bytes
-abbrev pub frame_text : Frame → List ℕ
-frame_text frame = id_text frame.id ++ codes "#" ++ encode_upper frame.bytes
+abbrev pub frame_text : Option ℕ → Frame → List ℕ
+frame_text flags frame = id_text frame.id ++ mark_text flags ++ encode_upper frame.bytes
 
 -- a frame that a tester was sent at a time, by the tester's name
-abbrev pub reply_line : List ℕ → ℕ → Frame → List ℕ
-reply_line name at frame =
-    stamp at ++ codes " " ++ name ++ codes " " ++ frame_text frame ++ codes "\n"
+abbrev pub reply_line : List ℕ → Option ℕ → ℕ → Frame → List ℕ
+reply_line name flags at frame =
+    stamp at ++ codes " " ++ name ++ codes " " ++ frame_text flags frame ++ codes "\n"
 
 -- what stands between a line's stamp and its bytes
-abbrev pub name_text : List ℕ → ℕ → List ℕ
-name_text name id = name ++ codes " " ++ id_text id ++ codes "#"
+abbrev pub name_text : List ℕ → Option ℕ → ℕ → List ℕ
+name_text name flags id = name ++ codes " " ++ id_text id ++ mark_text flags
+
+-- the flags of a frame of CAN FD are four bits
+abbrev pub AreFlags : Option ℕ → Type 0
+AreFlags flags = IfSome flags (λ f. f < 16)

@@ -1,13 +1,17 @@
 -- What a writer of reply lines keeps.
-use Rattle.std.specs.Prelude.{◌≡◌, ℕ, ◌+◌, ◌/◌, ◌%◌, ◌<◌, ◌≤◌, List, take}
+use Rattle.std.specs.Prelude.{◌≡◌, ℕ, ◌+◌, ◌/◌, ◌%◌, ◌<◌, ◌≤◌, List, take, Option}
 use Rattle.diag_can.specs.Reply.{name_text, seconds_text, thousandths_text}
 use Rattle.diag_can.specs.declared.writer.Front.{Front}
 use Rattle.diag_can.specs.declared.writer.KeptStamp.{KeptStamp}
 
--- what is kept of this name and identifier, if anything
-pub record IsFront (front : Front) (name : List ℕ) (id : ℕ) : Type 0 where
+-- this is kept, if anything
+pub record IsText (front : Front) (text : List ℕ) : Type 0 where
   pub short : front.len ≤ 24
-  pub text : 0 < front.len → take front.len front.bytes ≡ name_text name id
+  pub is : 0 < front.len → take front.len front.bytes ≡ text
+
+-- that of this name, of frames with these flags, if of CAN FD, and of this identifier
+abbrev pub IsFront : Front → List ℕ → Option ℕ → ℕ → Type 0
+IsFront front name flags id = IsText front (name_text name flags id)
 
 -- the stamp of its time, and when its second began
 pub record IsStamp (stamp : KeptStamp) : Type 0 where

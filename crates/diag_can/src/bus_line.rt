@@ -4,7 +4,7 @@ ghost use Rattle.std.specs.Prelude.{◌≡◌};
 ghost use Rattle.diag_can.specs.BusLine.{bus_line};
 
 use crate::fault::LineFault;
-use crate::frame::{CanId, TickCount};
+use crate::frame::{KnownId, TickCount};
 use crate::frame_text::FrameText;
 use crate::log::without_return;
 use crate::moment_text::MomentText;
@@ -28,8 +28,8 @@ pub enum BusLine<'a> {
 pub const LONGEST_LINE: usize = 4096;
 
 /// What a whole line of a capture says, from its bytes without LF, or how it is at fault: too long, or in none of the
-/// forms of a line. Of the 29-bit identifiers these are read.
-pub fn read_bus_line<'a>(known: &[CanId], piece: &'a [u8]) -> Result<BusLine<'a>, LineFault>
+/// forms of a line. These identifiers are read, beside all of 11 bits in classic frames.
+pub fn read_bus_line<'a>(known: &[KnownId], piece: &'a [u8]) -> Result<BusLine<'a>, LineFault>
     ensures { result ≡ bus_line known.now piece.now }
 {
     if piece.len() > LONGEST_LINE {

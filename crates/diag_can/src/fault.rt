@@ -13,7 +13,7 @@ pub enum LineFault {
     BadLine,
     /// The line begins with `tick` and isn't `tick` or `tick N` with N from 1 to 60000 without leading zero.
     BadTick,
-    /// The frame has more than 16 hex digits.
+    /// The frame has more than 16 hex digits, or one of CAN FD more than 128.
     TooManyBytes,
 }
 

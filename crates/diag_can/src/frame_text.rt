@@ -1,9 +1,10 @@
 //! The text of a data frame.
 
-ghost use Rattle.std.specs.Prelude.{◌≡◌, ◌<◌, ◌≤◌, ◌-◌, ◌*◌, ℕ, drop, length, IsOk, Ok};
+ghost use Rattle.std.specs.Prelude.{◌≡◌, ◌<◌, ◌≤◌, length, nat_lt, IsOk, Ok};
 ghost use Rattle.hex.specs.Hex.{decode_of};
 ghost use Rattle.diag_can.specs.FrameText.{EndsInBytes, IsLastEight, last_bytes};
 
+use crate::fd_bytes::FdBytes;
 use crate::frame::{CanId, FrameBytes};
 use crate::lanes::eight_of_digits;
 use std::marker::Model;
@@ -40,7 +41,7 @@ impl<'a> FrameText<'a> {
         FrameText { id, text, count }
     }
 
-    /// Its 11-bit identifier.
+    /// Its identifier.
     #[inline(always)]
     pub fn id(&self) -> CanId
         ensures { result ≡ self.now.id }
@@ -48,12 +49,39 @@ impl<'a> FrameText<'a> {
         self.id
     }
 
-    /// Its data, up to 8 bytes.
+    /// How many bytes its data has, up to 64.
+    #[inline(always)]
+    pub fn len(&self) -> usize
+        ensures count { result ≡ length self.now.bytes }
+        ensures fits { result ≤ 64 }
+    {
+        self.count
+    }
+
+    /// Whether its data has more than 8 bytes, as that of a frame of CAN FD may.
+    #[inline(always)]
+    pub fn is_long(&self) -> bool
+        ensures { result ≡ nat_lt 8 (length self.now.bytes) }
+    {
+        self.count > 8
+    }
+
+    /// Its data, where these are up to 8 bytes.
     #[inline(always)]
     pub fn bytes(&self) -> FrameBytes
+        requires { length self.now.bytes ≤ 8 }
         ensures { result ≡ self.now.bytes }
     {
         FrameBytes::last_of(last_eight(self.text), self.count)
+    }
+
+    /// Its data, however many bytes these are.
+    #[cold]
+    #[inline(never)]
+    pub fn long_bytes(&self) -> FdBytes
+        ensures { result ≡ self.now.bytes }
+    {
+        bytes_of(&self.text[self.text.len() - 2 * self.count..])
     }
 }
 
@@ -77,4 +105,22 @@ fn eight_of_few(text: &[u8]) -> [u8; 8]
     let mut digits = [b'0'; 16];
     digits[16 - text.len()..].copy_from_slice(text);
     eight_of_digits(&digits)
+}
+
+/// The bytes that hex digits write, up to 64: those of sixteen digits are looked at together, and so are those of the digits
+/// that are left.
+fn bytes_of(digits: &[u8]) -> FdBytes
+    requires hex { IsOk (decode_of digits.now) }
+    requires few { length digits.now ≤ 128 }
+    ensures { decode_of digits.now ≡ Ok result }
+{
+    let mut bytes = FdBytes::new();
+    let mut rest = digits;
+    while let Some((sixteen, tail)) = rest.split_first_chunk::<16>() {
+        bytes.append(&eight_of_digits(sixteen));
+        rest = tail;
+    }
+    let last = FrameBytes::last_of(last_eight(rest), rest.len() / 2);
+    bytes.append(last.as_slice());
+    bytes
 }

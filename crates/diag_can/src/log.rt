@@ -4,6 +4,7 @@ ghost use Rattle.std.specs.Prelude.{◌≡◌, ◌≢◌, ◌<◌, ◌≤◌, �
 ghost use Rattle.diag_can.specs.Line.{event_for, moment_for};
 ghost use Rattle.diag_can.specs.Log.{event_list, line_gives, without_return, waited, most_events};
 ghost use Rattle.diag_can.specs.Reading.{fault_with, given_at};
+ghost use Rattle.diag_can.specs.Short.{SaysShort};
 
 use crate::bus_line::BusLine;
 use crate::fault::LogFault;
@@ -119,7 +120,8 @@ impl Reading {
     /// Takes what a line says.
     #[inline(always)]
     pub(crate) fn take(&mut self, timing: Timing, ids: &Ids, said: &BusLine) -> Result<(), LogFault>
-        requires { length self.old.events.items ≤ most_events }
+        requires few { length self.old.events.items ≤ most_events }
+        requires short { SaysShort said.now }
         ensures took { OnOk result (Grown timing self.old self.new (moment_for ids.now (Ok said.now))
             (event_list (Ok (event_for ids.now said.now)))) }
         ensures err { IfErr result (λ fault.
@@ -160,7 +162,7 @@ impl Reading {
             → (length self.old.events.items < most_events)
             × (line_gives timing self.old.reference ids.now line.now ≢ []) }
     {
-        match line_says(&ids.all(), line) {
+        match line_says(&ids.known(false), line) {
             Ok(said) => self.take(timing, ids, &said),
             Err(fault) => Err(LogFault::Line(number, fault)),
         }

@@ -6,6 +6,7 @@ ghost use Rattle.diag_can.specs.Growing.{GivesMore, HasEvent};
 ghost use Rattle.diag_can.specs.HasRead.{AreRead, HasLines, HasRead};
 ghost use Rattle.diag_can.specs.Log.{events, fault_after, most_events, most_lines, without_return};
 ghost use Rattle.diag_can.specs.Pieces.{TakesLines};
+ghost use Rattle.diag_can.specs.declared.frame.KnownId.{KnownId};
 ghost use Rattle.diag_can.specs.declared.log.Timing.{Timing};
 
 use crate::bus_line::BusLine;
@@ -125,7 +126,7 @@ impl LogReader {
         said: Option<BusLine>,
     ) -> Result<(), LogFault>
         requires read { (past : List (List ℕ)) × AreRead ids.now timing self.old past }
-        requires says { IfSome said (λ said. (known : List ℕ) → bus_line known line.now ≡ Ok said) }
+        requires says { IfSome said (λ said. (known : List KnownId) → bus_line known line.now ≡ Ok said) }
         ensures took { OnOk result ((past : List (List ℕ))
             → AreRead ids.now timing self.old past
             → AreRead ids.now timing self.new (past ++ without_return line.now ∷ [])) }

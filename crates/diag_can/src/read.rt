@@ -1,13 +1,14 @@
 //! What a line says, and what it is to a tester.
 
-ghost use Rattle.std.specs.Prelude.{◌≡◌, option_map};
+ghost use Rattle.std.specs.Prelude.{◌≡◌, IfSome, option_map};
 ghost use Rattle.std.specs.List.{list_all};
 ghost use Rattle.diag_can.specs.Stamp.{is_digit};
 ghost use Rattle.diag_can.specs.Line.{is_decimal, ticks_of, tick_count, stamped, stamped_frame, text_frame, line_says, frame_for, event_for, line_event};
+ghost use Rattle.diag_can.specs.Short.{IsShort, SaysShort};
 
 use crate::bus_line::BusLine;
 use crate::fault::LineFault;
-use crate::frame::{CanId, Event, Ids, TickCount};
+use crate::frame::{Event, Ids, KnownId, TickCount};
 use crate::frame_text::FrameText;
 use crate::line::text_frame;
 use crate::moment_text::MomentText;
@@ -66,7 +67,7 @@ fn stamped_frame(line: &[u8]) -> Option<(u64, &[u8])>
 
 /// What a line says whose frame was seen at this moment and has this text.
 fn framed_says<'a>(
-    known: &[CanId],
+    known: &[KnownId],
     moment: MomentText<'a>,
     text: &'a [u8],
 ) -> Result<BusLine<'a>, LineFault>
@@ -76,9 +77,9 @@ fn framed_says<'a>(
     Ok(BusLine::Stamped { moment, frame })
 }
 
-/// What a line without its end says, whatever its form is, where these are the 29-bit identifiers that are read. Most stamps
-/// and names are of the usual form.
-pub fn line_says<'a>(known: &[CanId], line: &'a [u8]) -> Result<BusLine<'a>, LineFault>
+/// What a line without its end says, whatever its form is, where these identifiers are read. Most stamps and names are of the
+/// usual form.
+pub fn line_says<'a>(known: &[KnownId], line: &'a [u8]) -> Result<BusLine<'a>, LineFault>
     ensures { result ≡ line_says known.now line.now }
 {
     match text_place(line) {
@@ -89,7 +90,7 @@ pub fn line_says<'a>(known: &[CanId], line: &'a [u8]) -> Result<BusLine<'a>, Lin
 
 /// The same part by part.
 #[inline(never)]
-fn other_says<'a>(known: &[CanId], line: &'a [u8]) -> Result<BusLine<'a>, LineFault>
+fn other_says<'a>(known: &[KnownId], line: &'a [u8]) -> Result<BusLine<'a>, LineFault>
     ensures { result ≡ line_says known.now line.now }
 {
     if line.is_empty() {
@@ -107,9 +108,10 @@ fn other_says<'a>(known: &[CanId], line: &'a [u8]) -> Result<BusLine<'a>, LineFa
     }
 }
 
-/// What a frame is to the tester of these identifiers.
+/// What a frame of up to eight bytes is to the tester of these identifiers.
 #[inline(always)]
 pub fn frame_for(frame: &Option<FrameText>, ids: &Ids) -> Option<Event>
+    requires { IfSome frame.now IsShort }
     ensures { result ≡ frame_for ids.now frame.now }
 {
     let Some(frame) = frame else {
@@ -126,6 +128,7 @@ pub fn frame_for(frame: &Option<FrameText>, ids: &Ids) -> Option<Event>
 
 /// What a line is to the tester of these identifiers, by what it says.
 fn event_for(said: &BusLine, ids: &Ids) -> Option<Event>
+    requires { SaysShort said.now }
     ensures { result ≡ event_for ids.now said.now }
 {
     match said {
@@ -147,6 +150,6 @@ fn event_for(said: &BusLine, ids: &Ids) -> Option<Event>
 pub fn read_line(line: &[u8], ids: &Ids) -> Result<Option<Event>, LineFault>
     ensures { result ≡ line_event line.now ids.now }
 {
-    let said = line_says(&ids.all(), line)?;
+    let said = line_says(&ids.known(false), line)?;
     Ok(event_for(&said, ids))
 }

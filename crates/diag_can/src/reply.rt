@@ -1,35 +1,45 @@
 //! The line of a frame that a tester was sent, in candump's log notation.
 
-ghost use Rattle.std.specs.Prelude.{◌≡◌, ◌<◌, ◌≤◌, ◌+◌, ◌/◌, ◌^◌, ◌++◌, true, codes, decimal, OnOk, OnErr, vec_len, vec_capacity};
+ghost use Rattle.std.specs.Prelude.{◌≡◌, ◌<◌, ◌≤◌, ◌+◌, ◌/◌, ◌^◌, ◌*◌, ◌++◌, ◌∷◌, [], length, true, codes, decimal, IfSome, OnOk, OnErr, vec_len, vec_capacity};
 ghost use Rattle.std.specs.Fmt.{digits};
 ghost use Rattle.hex.specs.Hex.{encode_upper};
 ghost use Rattle.diag_can.specs.Identifier.{number_of};
-ghost use Rattle.diag_can.specs.Reply.{zero_filled, seconds_text, thousandths_text, stamp, four_bytes, id_text, frame_text, reply_line};
+ghost use Rattle.diag_can.specs.Reply.{AreFlags, zero_filled, seconds_text, thousandths_text, stamp, four_bytes, id_text, mark_text, reply_line};
 
-use crate::frame::{CanId, Frame, FrameBytes};
-use crate::hex_text::{add, digits_of_eight};
+use crate::frame::CanId;
+use crate::hex_text::{add, add_hex};
 use crate::table::{decimals, digits};
 use itoa::Buffer;
 use std::alloc::AllocError;
 use std::mem;
 
-/// More bytes than a line has beside its name.
-const LINE_ROOM: usize = 64;
+/// More bytes than a line has beside its name and the digits of its bytes.
+const LINE_ROOM: usize = 48;
 
 /// The first number of more than ten digits.
 const TEN_DIGITS: u64 = 10_000_000_000;
 
 /// Appends the line of a frame that the tester `name` was sent at `at` milliseconds:
 /// `(SECONDS.MILLISECONDS000) NAME ID#BYTES` and LF, where the seconds have ten digits or more, the milliseconds three,
-/// and the identifier three upper-case hex digits, or eight where it has 29 bits (candump's log format).
+/// and the identifier three upper-case hex digits, or eight where it has 29 bits (candump's log format). With flags it is a
+/// frame of CAN FD, and `##` and a digit of the flags stand in place of `#`.
 ///
 /// # Errors
 /// `AllocError` where memory is refused; the text stays as it was.
-pub fn write_line(text: &mut Vec<u8>, name: &[u8], at: u64, frame: &Frame) -> Result<(), AllocError>
-    ensures ok { OnOk result (text.new.items ≡ text.old.items ++ reply_line name.now at frame.now) }
+pub fn write_line(
+    text: &mut Vec<u8>,
+    name: &[u8],
+    flags: Option<u8>,
+    at: u64,
+    id: CanId,
+    bytes: &[u8],
+) -> Result<(), AllocError>
+    requires { AreFlags flags }
+    ensures ok { OnOk result (text.new.items
+        ≡ text.old.items ++ reply_line name.now flags at (record { id = id; bytes = bytes.now })) }
     ensures err { OnErr result (text.new.items ≡ text.old.items) }
 {
-    let Some(room) = name.len().checked_add(LINE_ROOM) else {
+    let Some(room) = line_room(name, bytes) else {
         return Err(AllocError);
     };
     text.reserve(room)?;
@@ -38,9 +48,20 @@ pub fn write_line(text: &mut Vec<u8>, name: &[u8], at: u64, frame: &Frame) -> Re
     let mut line = mem::replace(text, Vec::new(alloc));
     add_stamp(&mut line, at);
     add(&mut line, name);
-    add_frame(&mut line, frame);
+    add_id(&mut line, id);
+    add_mark(&mut line, flags);
+    add_data(&mut line, bytes);
     *text = line;
     Ok(())
+}
+
+/// As many bytes as a line may have, where that is a number.
+fn line_room(name: &[u8], bytes: &[u8]) -> Option<usize>
+    ensures { IfSome result (λ room. room ≡ length name.now + 2 * length bytes.now + 48) }
+{
+    name.len()
+        .checked_add(2 * bytes.len())?
+        .checked_add(LINE_ROOM)
 }
 
 /// The stamp of a time in milliseconds and a space, where there is room.
@@ -139,30 +160,19 @@ fn three_digits(number: u64) -> [u8; 3]
     [b'0' + (number / 100) as u8, b, c]
 }
 
-/// A space, the identifier, `#`, the bytes and LF, where there is room.
-#[inline(always)]
-fn add_frame(text: &mut Vec<u8>, frame: &Frame)
-    requires { vec_len text.old + 27 ≤ vec_capacity text.old }
-    ensures { text.new.items
-        ≡ text.old.items ++ (codes " " ++ frame_text frame.now ++ codes "\n") }
-{
-    add_id(text, frame.id);
-    add_data(text, &frame.bytes);
-}
-
-/// A space, the identifier and `#`, where there is room.
+/// A space and the identifier, where there is room.
 #[inline(always)]
 fn add_id(text: &mut Vec<u8>, id: CanId)
-    requires { vec_len text.old + 10 ≤ vec_capacity text.old }
-    ensures items { text.new.items ≡ text.old.items ++ (codes " " ++ id_text id ++ codes "#") }
-    ensures len { vec_len text.new ≤ vec_len text.old + 10 }
+    requires { vec_len text.old + 9 ≤ vec_capacity text.old }
+    ensures items { text.new.items ≡ text.old.items ++ (codes " " ++ id_text id) }
+    ensures len { vec_len text.new ≤ vec_len text.old + 9 }
     ensures capacity { vec_capacity text.new ≡ vec_capacity text.old }
 {
     if id.is_extended() {
         add_wide_id(text, id);
     } else {
         let [x, y, z] = identifier(id);
-        add(text, &[b' ', x, y, z, b'#']);
+        add(text, &[b' ', x, y, z]);
     }
 }
 
@@ -170,26 +180,46 @@ fn add_id(text: &mut Vec<u8>, id: CanId)
 #[inline(never)]
 fn add_wide_id(text: &mut Vec<u8>, id: CanId)
     requires wide { 2048 ≤ id }
-    requires room { vec_len text.old + 10 ≤ vec_capacity text.old }
-    ensures items { text.new.items ≡ text.old.items ++ (codes " " ++ id_text id ++ codes "#") }
-    ensures len { vec_len text.new ≤ vec_len text.old + 10 }
+    requires room { vec_len text.old + 9 ≤ vec_capacity text.old }
+    ensures items { text.new.items ≡ text.old.items ++ (codes " " ++ id_text id) }
+    ensures len { vec_len text.new ≤ vec_len text.old + 9 }
     ensures capacity { vec_capacity text.new ≡ vec_capacity text.old }
 {
     add(text, b" ");
     add(text, &wide_identifier(id));
-    add(text, b"#");
 }
 
-/// The bytes of a frame and LF, where there is room. The digits of all eight places are written, and those behind the
-/// frame's length taken back.
+/// What stands in front of the bytes, where there is room.
 #[inline(always)]
-pub(crate) fn add_data(text: &mut Vec<u8>, bytes: &FrameBytes)
-    requires { vec_len text.old + 17 ≤ vec_capacity text.old }
+fn add_mark(text: &mut Vec<u8>, flags: Option<u8>)
+    requires flags { AreFlags flags }
+    requires room { vec_len text.old + 3 ≤ vec_capacity text.old }
+    ensures items { text.new.items ≡ text.old.items ++ mark_text flags }
+    ensures len { vec_len text.new ≤ vec_len text.old + 3 }
+    ensures capacity { vec_capacity text.new ≡ vec_capacity text.old }
+{
+    match flags {
+        None => add(text, b"#"),
+        Some(flags) => add(text, &[b'#', b'#', flags_digit(flags)]),
+    }
+}
+
+/// The digit of four bits.
+pub(crate) fn flags_digit(flags: u8) -> u8
+    requires { flags < 16 }
+    ensures { digits 16 true flags ≡ result ∷ [] }
+{
+    let [_, digit] = digits(flags);
+    digit
+}
+
+/// The bytes of a frame and LF, where there is room.
+#[inline(always)]
+pub(crate) fn add_data(text: &mut Vec<u8>, bytes: &[u8])
+    requires { vec_len text.old + 2 * length bytes.now + 1 ≤ vec_capacity text.old }
     ensures { text.new.items ≡ text.old.items ++ (encode_upper bytes.now ++ codes "\n") }
 {
-    let end = text.len() + 2 * bytes.len();
-    add(text, &digits_of_eight(&bytes.places()));
-    text.truncate(end);
+    add_hex(text, bytes);
     text.push_reserved(b'\n');
 }
 

@@ -1,12 +1,13 @@
 //! A line of the usual form, of which many bytes are read at once: a stamp of ten digits and six, one space, a short name, one
 //! space, an identifier of three digits, and behind its `#` nothing but pairs of hex digits. Other lines are read part by part.
 
-ghost use Rattle.std.specs.Prelude.{◌≡◌, ◌<◌, ◌≤◌, ℕ, List, length, IfSome, Ok};
+ghost use Rattle.std.specs.Prelude.{◌≡◌, ◌<◌, ◌≤◌, List, length, IfSome, Ok};
 ghost use Rattle.diag_can.specs.Lanes.{IsRunIn};
 ghost use Rattle.diag_can.specs.Line.{line_says};
 ghost use Rattle.diag_can.specs.Stamp.{is_digit};
 ghost use Rattle.diag_can.specs.Usual.{BeginsFramed, IsUsual, three_at};
 ghost use Rattle.diag_can.specs.MomentText.{usual_moment};
+ghost use Rattle.diag_can.specs.declared.frame.KnownId.{KnownId};
 
 use crate::bus_line::BusLine;
 use crate::frame::CanId;
@@ -40,7 +41,7 @@ pub fn text_place(line: &[u8]) -> Option<usize>
 #[inline(always)]
 pub fn said_from(line: &[u8], place: usize, id: CanId) -> BusLine<'_>
     requires { IsUsual line.now place id }
-    ensures { (known : List ℕ) → line_says known line.now ≡ Ok result }
+    ensures { (known : List KnownId) → line_says known line.now ≡ Ok result }
 {
     BusLine::Stamped {
         moment: MomentText::usual(line),

@@ -54,6 +54,8 @@ pub enum Kind {
     Identifier(u32),
     /// STmin as its byte (ISO 15765-2:2016, 9.6.5).
     Separation,
+    /// TX_DL: how long the longest frames are (ISO 15765-2:2016, 9.5).
+    DataLength,
     /// The odd sub-function of a security level (ISO 14229-1:2013, 9.4).
     SubFunction,
     /// A number that another table has. Whether it does is looked at last, so here it is any.
@@ -131,7 +133,7 @@ macro_rules! key {
 }
 
 /// All keys, in the order in which a setup is read.
-pub static KEYS: [Key; 52] = [
+pub static KEYS: [Key; 55] = [
     unit!("p2_ms", Kind::Number(0, 65_535)),
     unit!("p2_star_10ms", Kind::Number(0, 65_535)),
     unit!("s3_ms", Kind::Number(1, 600_000)),
@@ -142,6 +144,8 @@ pub static KEYS: [Key; 52] = [
     unit!("max_request", Kind::Number(8, 65_535)),
     unit!("pad", Kind::Truth),
     unit!("pad_byte", Kind::Number(0, 255)),
+    unit!("tx_dl", Kind::DataLength),
+    unit!("fd_flags", Kind::Number(0, 15)),
     unit!("availability", Kind::Number(0, 255)),
     unit!("functional", Kind::Identifier(MOST_STANDARD)),
     unit!("attempts", Kind::Number(1, 255)),
@@ -182,6 +186,7 @@ pub static KEYS: [Key; 52] = [
         Kind::Identifier(MOST_EXTENDED),
         Need::May
     ),
+    key!("tester.fd", "fd", Table::Tester, Kind::Truth, Need::May),
     key!(
         "did.id",
         "id",
@@ -369,6 +374,7 @@ impl Kind {
             Kind::Number(..)
                 | Kind::Identifier(_)
                 | Kind::Separation
+                | Kind::DataLength
                 | Kind::SubFunction
                 | Kind::Reference
         )
@@ -380,6 +386,7 @@ impl Kind {
             Kind::Number(..)
             | Kind::Identifier(_)
             | Kind::Separation
+            | Kind::DataLength
             | Kind::SubFunction
             | Kind::Reference => "a whole number from 0 to 4294967295",
             Kind::Truth => "true or false",
@@ -418,7 +425,7 @@ impl fmt::Display for Wanted {
             Kind::Number(..) | Kind::Identifier(_) | Kind::Separation => {
                 write!(f, "a whole number from {kind}")
             }
-            Kind::SubFunction => write!(f, "{kind}"),
+            Kind::DataLength | Kind::SubFunction => write!(f, "{kind}"),
             _ => f.write_str(kind.is_what()),
         }
     }
@@ -431,6 +438,7 @@ impl fmt::Display for Kind {
             Kind::Number(least, most) => write!(f, "{least} to {most}"),
             Kind::Identifier(most) => write!(f, "0 to 0x{most:X}"),
             Kind::Separation => write!(f, "0 to 127 or 241 to 249"),
+            Kind::DataLength => write!(f, "8, 12, 16, 20, 24, 32, 48 or 64"),
             Kind::SubFunction => write!(f, "an odd number from 1 to 65"),
             Kind::Name => write!(f, "1 to 16 letters, digits or _"),
             Kind::Bytes(least, most) => write!(f, "{least} to {most} bytes"),

@@ -240,6 +240,7 @@ impl<'a> Look<'a> {
             }
         }
         self.decimal(tree, "functional", Row::UNIT)?;
+        self.without_fd(tree)?;
         self.all_templates(tree)?;
         self.taken(tree)?;
         self.empties(tree)?;

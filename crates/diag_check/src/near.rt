@@ -7,7 +7,7 @@ use strsim::osa_distance;
 /// The longest name that is compared, in bytes.
 const MOST_COMPARED: usize = 32;
 
-/// The name of the nearest key of a table, where one is near.
+/// The name of the nearest key of a table, where one is near: by one edit, or by two that leave some of the name.
 pub fn nearest(
     alloc: Global,
     name: &str,
@@ -21,7 +21,8 @@ pub fn nearest(
     for key in &KEYS {
         if key.table == table {
             let edits = osa_distance(alloc, name, key.name)?;
-            if edits < least && edits < key.name.len() && edits > 0 {
+            let most = key.name.len().min(name.len().max(2));
+            if 0 < edits && edits < least.min(most) {
                 least = edits;
                 nearest = Some(key.name);
             }

@@ -1,8 +1,8 @@
 //! What is odd about a setup without being a fault.
 
 use crate::finding::Row;
-use crate::look::Look;
-use crate::pairs::{is_extended, number_at};
+use crate::look::{Look, list_at};
+use crate::pairs::{is_extended, is_fd, number_at};
 use std::alloc::AllocError;
 use toml::{Table as Tree, Value};
 
@@ -28,6 +28,20 @@ impl Look<'_> {
             if self.text.contains(numeral.as_str()) {
                 let text = format!(in self.alloc; "{name}{row}: {id} is 0x{id:X}; 0x{id}?")?;
                 self.remark(row.key(name), text)?;
+            }
+        }
+        Ok(())
+    }
+
+    /// What counts for testers that talk by CAN FD alone, where there is none.
+    pub fn without_fd(&mut self, tree: &Tree) -> Result<(), AllocError> {
+        let has_fd = list_at(tree, "tester").iter().any(is_fd_tester);
+        for name in ["tx_dl", "fd_flags"] {
+            if !has_fd && tree.get(name).is_some() {
+                let text = format!(in self.alloc;
+                    "{name}: it counts for a [[tester]] with fd = true alone, and there is none"
+                )?;
+                self.remark(Row::UNIT.key(name), text)?;
             }
         }
         Ok(())
@@ -107,6 +121,13 @@ impl Look<'_> {
 /// Whether a row of answers is for session 1 and needs a level, which session 1 never unlocks.
 pub fn is_never_met(session: u32, level: u32) -> bool {
     session == 1 && level > 0
+}
+
+fn is_fd_tester(tester: &Value) -> bool {
+    match tester {
+        Value::Table(tester) => is_fd(tester),
+        _ => false,
+    }
 }
 
 fn is_obd_request(id: u32) -> bool {

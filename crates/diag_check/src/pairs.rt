@@ -5,7 +5,7 @@ use crate::keys::Table;
 use crate::look::{Look, list_at};
 use crate::value::number;
 use diag_setup::SetupFault;
-use std::alloc::AllocError;
+use std::alloc::{AllocError, Global};
 use std::collections::BTreeMap;
 use toml::{Table as Tree, Value};
 
@@ -31,7 +31,33 @@ pub fn number_at(tree: &Tree, name: &str) -> Option<u32> {
 
 /// Whether a tester's identifiers are of 29 bits.
 pub fn is_extended(tester: &Tree) -> bool {
-    matches!(tester.get("extended"), Some(Value::Boolean(true)))
+    is_true_at(tester, "extended")
+}
+
+/// Whether a tester talks by CAN FD.
+pub fn is_fd(tester: &Tree) -> bool {
+    is_true_at(tester, "fd")
+}
+
+/// Whether it talks by classic CAN; not where what it has at `fd` is neither.
+fn is_classic(tester: &Tree) -> bool {
+    matches!(tester.get("fd"), None | Some(Value::Boolean(false)))
+}
+
+fn is_true_at(tree: &Tree, name: &str) -> bool {
+    matches!(tree.get(name), Some(Value::Boolean(true)))
+}
+
+/// The functional identifier of a tester, and whether it is of 29 bits, where the unit has this one of 11 bits.
+fn functional_id(tester: &Tree, shared: u32) -> (u32, bool) {
+    let is_extended = is_extended(tester);
+    let default = if is_extended {
+        FUNCTIONAL_EXTENDED
+    } else {
+        shared
+    };
+    let id = number_at(tester, "functional").unwrap_or(default);
+    (id, is_extended)
 }
 
 impl Look<'_> {
@@ -55,7 +81,9 @@ impl Look<'_> {
                 self.identifier(&mut seen, tester, ("response", row))?;
             }
         }
-        self.functional_identifiers(tree, &mut seen)
+        let shared = number_at(tree, "functional").unwrap_or(FUNCTIONAL);
+        self.functional_identifiers(tree, shared, &mut seen)?;
+        self.mixed_identifiers(tree, shared)
     }
 
     fn identifier(
@@ -81,23 +109,42 @@ impl Look<'_> {
     }
 
     /// Requests and responses that are a functional identifier; several testers may have one of these.
-    fn functional_identifiers(&mut self, tree: &Tree, seen: &mut Seen) -> Result<(), AllocError> {
-        let shared = number_at(tree, "functional").unwrap_or(FUNCTIONAL);
+    fn functional_identifiers(
+        &mut self,
+        tree: &Tree,
+        shared: u32,
+        seen: &mut Seen,
+    ) -> Result<(), AllocError> {
         for tester in list_at(tree, "tester") {
             if let Value::Table(tester) = tester {
-                let is_extended = is_extended(tester);
-                let default = if is_extended {
-                    FUNCTIONAL_EXTENDED
-                } else {
-                    shared
-                };
-                let id = number_at(tester, "functional").unwrap_or(default);
-                if let Some((name, row)) = seen.remove(&(id, is_extended)) {
+                let key = functional_id(tester, shared);
+                if let Some((name, row)) = seen.remove(&key) {
+                    let (id, _) = key;
                     let place = format!(in self.alloc;
                         "{name} of [[tester]] {row} is 0x{id:X}, as functional"
                     )?;
                     let row = Row::of(Table::Tester, row);
                     self.refuse(SetupFault::DuplicateId, row.key(name), place)?;
+                }
+            }
+        }
+        Ok(())
+    }
+
+    /// Testers that talk by CAN FD, and have the functional identifier of one that doesn't.
+    fn mixed_identifiers(&mut self, tree: &Tree, shared: u32) -> Result<(), AllocError> {
+        let classic = classic_testers(self.alloc, tree, shared)?;
+        for (index, tester) in list_at(tree, "tester").iter().enumerate() {
+            if let Value::Table(tester) = tester {
+                let key = functional_id(tester, shared);
+                let first = classic.get(&key).copied();
+                if let (true, Some(first)) = (is_fd(tester), first) {
+                    let (id, _) = key;
+                    let row = Row::of(Table::Tester, index.saturating_add(1));
+                    let place = format!(in self.alloc;
+                        "fd{row} is true: its functional identifier is 0x{id:X}, as that of [[tester]] {first}, which is of classic CAN"
+                    )?;
+                    self.refuse(SetupFault::DuplicateId, row.key("fd"), place)?;
                 }
             }
         }
@@ -197,6 +244,24 @@ impl Look<'_> {
     }
 }
 
+/// The first tester of each functional identifier that a tester of classic CAN has, by its number.
+fn classic_testers(
+    alloc: Global,
+    tree: &Tree,
+    shared: u32,
+) -> Result<BTreeMap<(u32, bool), usize>, AllocError> {
+    let mut classic = BTreeMap::new(alloc);
+    for (index, tester) in list_at(tree, "tester").iter().enumerate() {
+        if let Value::Table(tester) = tester {
+            let key = functional_id(tester, shared);
+            if is_classic(tester) && classic.get(&key).is_none() {
+                classic.insert(key, index.saturating_add(1))?;
+            }
+        }
+    }
+    Ok(classic)
+}
+
 fn name_of(tester: &Value) -> Option<&str> {
     match tester {
         Value::Table(tester) => match tester.get("name") {
@@ -216,7 +281,7 @@ fn number_of(item: &Value, name: &str) -> Option<u32> {
 
 /// The numbers at a key of a list's rows.
 fn numbers(
-    alloc: std::alloc::Global,
+    alloc: Global,
     tree: &Tree,
     list: &str,
     name: &str,

@@ -93,6 +93,7 @@ pub fn is_of_kind(kind: Kind, value: &Value) -> bool {
         Kind::Number(..)
         | Kind::Identifier(_)
         | Kind::Separation
+        | Kind::DataLength
         | Kind::SubFunction
         | Kind::Reference => number(value).is_some(),
         Kind::Truth => value.is_bool(),
@@ -117,6 +118,7 @@ fn is_number_allowed(kind: Kind, n: u32) -> bool {
         Kind::Number(least, most) => least <= n && n <= most,
         Kind::Identifier(most) => n <= most,
         Kind::Separation => n <= 127 || (241 <= n && n <= 249),
+        Kind::DataLength => matches!(n, 8 | 12 | 16 | 20 | 24 | 32 | 48 | 64),
         Kind::SubFunction => n <= 65 && n % 2 == 1,
         _ => true,
     }

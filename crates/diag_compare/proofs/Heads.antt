@@ -7,6 +7,7 @@ use Rattle.std.specs.Prelude.{if◌then◌else◌, nat_lt, option_and_then, slic
 use Rattle.diag_can.specs.declared.frame.Event.{Event}
 use Rattle.diag_can.specs.declared.frame.Event.TheVariants.{Physical, Functional, Ticks}
 use Rattle.diag_pdu.specs.Kind.{kind, Kind, Single, First, Overflow, Consecutive, FlowControl, Ignored}
+use Rattle.diag_pdu.specs.declared.length.DataLength.{DataLength}
 use Rattle.diag_pdu.specs.declared.setup.LinkSetup.{LinkSetup}
 use Rattle.diag_pdu.specs.declared.step.Step.{Step}
 use Rattle.diag_pdu.specs.declared.step.Step.TheVariants as step
@@ -29,13 +30,13 @@ use Rattle.diag_exchange.proofs.Lists.{Each}
 use Rattle.diag_compare.specs.Hearing.{asks, capture_line_of, entries_by, entry_happens, happen_after, happenings, is_of, line_happens, time_of_line, unit_events, unit_frame, unit_side}
 use Rattle.diag_listen.specs.Listening.{all_happen, began, breaks, came, frame_happens, lost_if, receives, unit_happens}
 use Rattle.diag_compare.specs.Meaning.{IsHeaded, messages, messages_after}
-use Rattle.diag_compare.proofs.FirstFrames.{HasHead, IsFirst, first_of_kind}
+use Rattle.diag_compare.proofs.FirstFrames.{HasHead, IsFirst, eight_most, first_of_kind}
 use Rattle.diag_compare.proofs.Messages.{IsOfUnit, coming_append, each_time, each_unit, messages_append, unit_push}
 
 -- ---- what is known of the message that is coming in
 
 record HeadOf (start : Start) (r : Reception) : Type 0 where
-  has : HasHead r.len r.head
+  has : HasHead r.len r.rx_dl r.head
   first : start.first ≡ slice_index r.head 0
   second : start.second ≡ slice_get r.head 1
 
@@ -57,12 +58,12 @@ lost_heads None true o k = (tt, tt)
 lost_heads (Some s) true o k = (tt, tt)
 lost_heads c false o k = (tt, k)
 
-began_heads : (c : Option Start) (b : Bool) (at : CaptureLine) (len t : ℕ) (head : List ℕ) → HasHead len head
-    → Heads c (lost_if b ++ began at head ∷ []) (Some (record { len = len; head = head; parts = []; last = t }))
-began_heads None true at len t head h = (tt, record { has = h; first = refl; second = refl })
-began_heads (Some s) true at len t head h = (tt, record { has = h; first = refl; second = refl })
-began_heads None false at len t head h = (tt, record { has = h; first = refl; second = refl })
-began_heads (Some s) false at len t head h = (tt, record { has = h; first = refl; second = refl })
+began_heads : (c : Option Start) (b : Bool) (at : CaptureLine) (len t : ℕ) (rx_dl : DataLength) (head : List ℕ) → HasHead len rx_dl head
+    → Heads c (lost_if b ++ began at head ∷ []) (Some (record { len = len; rx_dl = rx_dl; head = head; parts = []; last = t }))
+began_heads None true at len t rx_dl head h = (tt, record { has = h; first = refl; second = refl })
+began_heads (Some s) true at len t rx_dl head h = (tt, record { has = h; first = refl; second = refl })
+began_heads None false at len t rx_dl head h = (tt, record { has = h; first = refl; second = refl })
+began_heads (Some s) false at len t rx_dl head h = (tt, record { has = h; first = refl; second = refl })
 
 single_heads : (c : Option Start) (b : Bool) (at : CaptureLine) (bytes : List ℕ) → Heads c (lost_if b ++ began at bytes ∷ Came bytes ∷ []) None
 single_heads None true at bytes = ((record { first = refl; second = refl }, tt), tt)
@@ -71,25 +72,25 @@ single_heads None false at bytes = ((record { first = refl; second = refl }, tt)
 single_heads (Some s) false at bytes = ((record { first = refl; second = refl }, tt), tt)
 
 -- the first two bytes of a message are those of its head
-first_byte : (len : ℕ) (head more : List ℕ) → HasHead len head → slice_index head 0 ≡ slice_index (take len (head ++ more)) 0
-first_byte len [] more h = absurd (let s = h.some in omega (arith, s))
-first_byte zero (a ∷ head) more h = absurd (let l = h.long in omega (arith, l))
-first_byte (suc len) (a ∷ head) more h = refl
+first_byte : (len : ℕ) (rx_dl : DataLength) (head more : List ℕ) → HasHead len rx_dl head → slice_index head 0 ≡ slice_index (take len (head ++ more)) 0
+first_byte len rx_dl [] more h = absurd (let s = h.some in omega (arith, s))
+first_byte zero rx_dl (a ∷ head) more h = absurd (let l = eight_most rx_dl zero h.long in omega (arith, l))
+first_byte (suc len) rx_dl (a ∷ head) more h = refl
 
-second_byte : (len : ℕ) (head more : List ℕ) → HasHead len head → slice_get head 1 ≡ slice_get (take len (head ++ more)) 1
-second_byte len [] more h = absurd (let s = h.some in omega (arith, s))
-second_byte len (a ∷ []) more h = absurd (let s = h.some in omega (arith, s))
-second_byte zero (a ∷ b ∷ head) more h = absurd (let l = h.long in omega (arith, l))
-second_byte (suc zero) (a ∷ b ∷ head) more h = absurd (let l = h.long in omega (arith, l))
-second_byte (suc (suc len)) (a ∷ b ∷ head) more h = refl
+second_byte : (len : ℕ) (rx_dl : DataLength) (head more : List ℕ) → HasHead len rx_dl head → slice_get head 1 ≡ slice_get (take len (head ++ more)) 1
+second_byte len rx_dl [] more h = absurd (let s = h.some in omega (arith, s))
+second_byte len rx_dl (a ∷ []) more h = absurd (let s = h.some in omega (arith, s))
+second_byte zero rx_dl (a ∷ b ∷ head) more h = absurd (let l = eight_most rx_dl zero h.long in omega (arith, l))
+second_byte (suc zero) rx_dl (a ∷ b ∷ head) more h = absurd (let l = eight_most rx_dl (suc zero) h.long in omega (arith, l))
+second_byte (suc (suc len)) rx_dl (a ∷ b ∷ head) more h = refl
 
 came_heads : (c : Option Start) (r : Reception) → Known c (Some r) → (o : Option Reception) → Heads c (Came (message_of r) ∷ []) o
 came_heads None r k o = (tt, tt)
 came_heads (Some s) r k o = (
   (
     record {
-      first = k.first ∙ first_byte r.len r.head (flat_map (λ part. part) r.parts) k.has;
-      second = k.second ∙ second_byte r.len r.head (flat_map (λ part. part) r.parts) k.has;
+      first = k.first ∙ first_byte r.len r.rx_dl r.head (flat_map (λ part. part) r.parts) k.has;
+      second = k.second ∙ second_byte r.len r.rx_dl r.head (flat_map (λ part. part) r.parts) k.has;
     },
     tt,
   ),
@@ -105,7 +106,7 @@ whole_heads c r b false e k =
     (sym (ap (λ (w : Bool). if w then Some (step.Request (record { functional = false; message = message_of r })) else None) e)) (lost_heads c b (Some r) k)
 
 known_part : (c : Option Start) (r : Reception) (part : List ℕ) (t : ℕ) → Known c (Some r)
-    → Known c (Some (record { len = r.len; head = r.head; parts = r.parts ++ part ∷ []; last = t }))
+    → Known c (Some (record { len = r.len; rx_dl = r.rx_dl; head = r.head; parts = r.parts ++ part ∷ []; last = t }))
 known_part None r part t k = tt
 known_part (Some s) r part t k = record { has = k.has; first = k.first; second = k.second }
 
@@ -115,10 +116,10 @@ part_heads c None t sequence_number part b k = lost_heads c b None (known_none c
 part_heads c (Some r) t sequence_number part b k = next_case (is_next r sequence_number part)
   where
     next_case : (n : Bool)
-        → Heads c (came (completed (if n then Some (record { len = r.len; head = r.head; parts = r.parts ++ part ∷ []; last = t }) else None)) b)
-        (if n then Some (record { len = r.len; head = r.head; parts = r.parts ++ part ∷ []; last = t }) else None)
+        → Heads c (came (completed (if n then Some (record { len = r.len; rx_dl = r.rx_dl; head = r.head; parts = r.parts ++ part ∷ []; last = t }) else None)) b)
+        (if n then Some (record { len = r.len; rx_dl = r.rx_dl; head = r.head; parts = r.parts ++ part ∷ []; last = t }) else None)
     next_case true =
-        let more : Reception = record { len = r.len; head = r.head; parts = r.parts ++ part ∷ []; last = t } in whole_heads c more b
+        let more : Reception = record { len = r.len; rx_dl = r.rx_dl; head = r.head; parts = r.parts ++ part ∷ []; last = t } in whole_heads c more b
         (is_whole more) refl (known_part c r part t k)
     next_case false = lost_heads c b None (known_none c)
 
@@ -144,8 +145,8 @@ module _ (s : LinkSetup) (at : CaptureLine) (E : List Event) (c : Option Start) 
 
     frame_heads : (k : Kind) → kind bytes s.max_request ≡ k → Then (frame_happens s at E bytes k)
     frame_heads (Single payload) is = by_kind _ (Single payload) is (single_heads c (receives s E) at payload)
-    frame_heads (First len head) is =
-        by_kind _ (First len head) is (began_heads c (receives s E) at len (now (history E)) head (subst IsFirst is (first_of_kind bytes s.max_request)))
+    frame_heads (First len rx_dl head) is =
+        by_kind _ (First len rx_dl head) is (began_heads c (receives s E) at len (now (history E)) rx_dl head (subst IsFirst is (first_of_kind bytes s.max_request)))
     frame_heads Overflow is = by_kind _ Overflow is (lost_heads c (receives s E) None (known_none c))
     frame_heads (FlowControl flow_status block_size st_min) is = by_kind [] (FlowControl flow_status block_size st_min) is (tt, known)
     frame_heads Ignored is = by_kind [] Ignored is (tt, known)

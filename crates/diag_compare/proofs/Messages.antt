@@ -1,5 +1,5 @@
 -- The messages of the unit are what the events of its side give.
-use Rattle.std.proofs.Common.{◌≡◌, ◌≤◌, ℕ, zero, suc, ◌+◌, ◌/◌, ◌%◌, Bool, true, false, Option, Some, None, List, [], ◌∷◌, ◌++◌, length, length-append, map, replicate, refl, ap, ap₂, subst, sym, ◌∙◌, append_assoc, arith}
+use Rattle.std.proofs.Common.{◌≡◌, ◌≤◌, ◌<◌, ℕ, zero, suc, ◌+◌, ◌/◌, ◌%◌, Bool, true, false, Option, Some, None, List, [], ◌∷◌, ◌++◌, length, length-append, map, replicate, refl, ap, ap₂, subst, sym, ◌∙◌, append_assoc, arith}
 use Rattle.std.proofs.lemmas.Bool.{eqb-true}
 use Rattle.std.proofs.lemmas.Bool.Decides.{nat_tests}
 use Rattle.std.proofs.lemmas.List.{append-nil, map-append}
@@ -14,6 +14,8 @@ use Rattle.diag_can.specs.declared.frame.Event.{Event}
 use Rattle.diag_can.specs.declared.frame.Event.TheVariants.{Physical, Functional, Ticks}
 use Rattle.diag_can.specs.declared.frame.Frame.{Frame}
 use Rattle.diag_can.specs.declared.log.Timing.TheVariants.{Stamps}
+use Rattle.diag_pdu.specs.declared.length.DataLength.{DataLength}
+use Rattle.diag_pdu.specs.Length.{single_most}
 use Rattle.diag_pdu.specs.Cut.{consecutive_count}
 use Rattle.diag_pdu.specs.Kind.{kind, Kind, Single, First, Overflow, Consecutive, FlowControl, Ignored}
 use Rattle.diag_pdu.specs.Request.{request_of}
@@ -25,6 +27,7 @@ use Rattle.diag_setup.specs.declared.raw.RawSetup.{RawSetup}
 use Rattle.diag_tp.specs.Gives.{completed, gives, physical_step, steps, steps_after}
 use Rattle.diag_tp.specs.Moments.{history, now}
 use Rattle.diag_tp.specs.Reception.{Reception, in_time, is_next, is_whole, message_of, open_at, with_frame, with_part}
+use Rattle.diag_pdu.proofs.Lengths.{count-some}
 use Rattle.diag_tp.proofs.Moments.{after-append, history-more}
 use Rattle.diag_ecu.specs.State.{State}
 use Rattle.diag_desk.specs.declared.entry.Entry.{Entry}
@@ -41,8 +44,8 @@ use Rattle.diag_listen.specs.Listening.{all_happen, began, breaks, came, frame_h
 use Rattle.diag_compare.proofs.FirstFrames.{IsFirst, first_of_kind}
 use Rattle.diag_compare.specs.Meaning.{bytes_heard, message_given, messages_after}
 
-some_parts : (len : ℕ) → 8 ≤ len → nat_lt 0 (consecutive_count len) ≡ true
-some_parts len long = grind (arith, nat_tests)
+some_parts : (rx_dl : DataLength) (len : ℕ) → single_most rx_dl < len → nat_lt 0 (consecutive_count rx_dl len) ≡ true
+some_parts rx_dl len long = let some = count-some rx_dl len long in grind (arith, nat_tests, some)
 
 -- ---- what is heard
 
@@ -99,24 +102,24 @@ lost_by c true false e f = (lost_heard c true, refl)
 lost_by c false false e f = (refl, e)
 lost_by c u true e f = cc
 
-whole_case : (c : Option Start) (r : Reception) (u : Bool) → is_some c ≡ true → u ≡ true → length r.parts ≤ consecutive_count r.len → (w : Bool)
+whole_case : (c : Option Start) (r : Reception) (u : Bool) → is_some c ≡ true → u ≡ true → length r.parts ≤ consecutive_count r.rx_dl r.len → (w : Bool)
     → is_whole r ≡ w
     → Gives c (came (if w then Some (step.Request (request_of false (message_of r))) else None) (u && not (is_unfinished (Some r))))
     (if w then Some (step.Request (request_of false (message_of r))) else None) (is_unfinished (Some r))
 whole_case c r u e is few true whole =
     let s = some_of c e in
-    let done : is_unfinished (Some r) ≡ false = grind (arith, nat_tests, eqb-true (length r.parts) (consecutive_count r.len) whole) in
+    let done : is_unfinished (Some r) ≡ false = grind (arith, nat_tests, eqb-true (length r.parts) (consecutive_count r.rx_dl r.len) whole) in
     (ap (λ (c : Option Start). heard c (Came (message_of r) ∷ [])) s.1, sym done)
 whole_case c r u e is few false whole =
     let more : is_unfinished (Some r) ≡ true = grind (arith, nat_tests) in
     let none : (u && not (is_unfinished (Some r))) ≡ false = ap₂ (λ a b. a && not b) is more in
     (ap (λ (b : Bool). heard c (lost_if b)) none, ap (λ (b : Bool). is_some (coming_after c (lost_if b))) none ∙ (e ∙ sym more))
 
-next_below : (r : Reception) (sequence_number : ℕ) (part : List ℕ) → is_next r sequence_number part ≡ true → nat_lt (length r.parts) (consecutive_count r.len) ≡ true
+next_below : (r : Reception) (sequence_number : ℕ) (part : List ℕ) → is_next r sequence_number part ≡ true → nat_lt (length r.parts) (consecutive_count r.rx_dl r.len) ≡ true
 next_below r sequence_number part e = grind arith
 
-one_further : (r : Reception) (part : List ℕ) → nat_lt (length r.parts) (consecutive_count r.len) ≡ true
-    → length (r.parts ++ part ∷ []) ≤ consecutive_count r.len
+one_further : (r : Reception) (part : List ℕ) → nat_lt (length r.parts) (consecutive_count r.rx_dl r.len) ≡ true
+    → length (r.parts ++ part ∷ []) ≤ consecutive_count r.rx_dl r.len
 one_further r part e = let more = length-append r.parts (part ∷ []) in grind (arith, nat_tests)
 
 module _ (t sequence_number : ℕ) (part : List ℕ) where
@@ -124,13 +127,13 @@ module _ (t sequence_number : ℕ) (part : List ℕ) where
   then_is o = option_and_then (with_part t sequence_number part) o
 
   part_case : (c : Option Start) (r : Reception) → is_some c ≡ is_unfinished (Some r) → (b : Bool) → is_next r sequence_number part ≡ b
-      → (o : Option Reception) → o ≡ (if b then Some (record { len = r.len; head = r.head; parts = r.parts ++ part ∷ []; last = t }) else None)
+      → (o : Option Reception) → o ≡ (if b then Some (record { len = r.len; rx_dl = r.rx_dl; head = r.head; parts = r.parts ++ part ∷ []; last = t }) else None)
       → Gives c (came (completed o) (is_unfinished (Some r) && not (is_unfinished o))) (completed o) (is_unfinished o)
   part_case c r e false other o is =
       subst (λ (o : Option Reception). Gives c (came (completed o) (is_unfinished (Some r) && not (is_unfinished o))) (completed o) (is_unfinished o)) (sym is)
       (lost_by c (is_unfinished (Some r)) false e refl)
   part_case c r e true next o is =
-      let more : Reception = record { len = r.len; head = r.head; parts = r.parts ++ part ∷ []; last = t } in
+      let more : Reception = record { len = r.len; rx_dl = r.rx_dl; head = r.head; parts = r.parts ++ part ∷ []; last = t } in
       let below : is_unfinished (Some r) ≡ true = next_below r sequence_number part next in
       subst (λ (o : Option Reception). Gives c (came (completed o) (is_unfinished (Some r) && not (is_unfinished o))) (completed o) (is_unfinished o)) (sym is)
       (whole_case c more (is_unfinished (Some r)) (e ∙ below) below (one_further r part below) (is_whole more) refl)
@@ -166,10 +169,10 @@ module _ (s : LinkSetup) (at : CaptureLine) (E : List Event) (c : Option Start) 
 
     frame_gives : (k : Kind) → kind bytes s.max_request ≡ k → Steps (Physical bytes) (frame_happens s at E bytes k)
     frame_gives (Single payload) is = by_values (frame_happens s at E bytes (Single payload)) (Single payload) is (lost_single c (receives s E) at payload)
-    frame_gives (First len head) is =
-        let long : nat_lt 0 (consecutive_count len) ≡ true = some_parts len (subst IsFirst is (first_of_kind bytes s.max_request)).long in
+    frame_gives (First len rx_dl head) is =
+        let long : nat_lt 0 (consecutive_count rx_dl len) ≡ true = some_parts rx_dl len (subst IsFirst is (first_of_kind bytes s.max_request)).long in
         let g = lost_begins c (receives s E) at head in
-        by_values (frame_happens s at E bytes (First len head)) (First len head) is (g.0, g.1 ∙ sym long)
+        by_values (frame_happens s at E bytes (First len rx_dl head)) (First len rx_dl head) is (g.0, g.1 ∙ sym long)
     frame_gives Overflow is = by_values (lost_if (receives s E)) Overflow is (lost_heard c (receives s E), lost_coming c (receives s E) own)
     frame_gives (FlowControl flow_status block_size st_min) is = by_values [] (FlowControl flow_status block_size st_min) is (refl, own)
     frame_gives Ignored is = by_values [] Ignored is (refl, own)

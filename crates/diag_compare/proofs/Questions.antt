@@ -102,7 +102,7 @@ came_asks (Some (step.Ticks n)) b = lost_asks b
 
 frame_asks : (s : LinkSetup) (at : CaptureLine) (E : List Event) (bytes : List ℕ) (pci : Kind) → questions (frame_happens s at E bytes pci) ≡ []
 frame_asks s at E bytes (Single payload) = flat_append asked_one (lost_if (receives s E)) _ ∙ ap (λ w. w ++ []) (lost_asks (receives s E))
-frame_asks s at E bytes (First len head) = flat_append asked_one (lost_if (receives s E)) _ ∙ ap (λ w. w ++ []) (lost_asks (receives s E))
+frame_asks s at E bytes (First len rx_dl head) = flat_append asked_one (lost_if (receives s E)) _ ∙ ap (λ w. w ++ []) (lost_asks (receives s E))
 frame_asks s at E bytes Overflow = lost_asks (receives s E)
 frame_asks s at E bytes (Consecutive sequence_number part) = came_asks (gives s E (Physical bytes)) (breaks s E (Physical bytes))
 frame_asks s at E bytes (FlowControl flow_status block_size st_min) = refl

@@ -19,7 +19,7 @@ use crate::range::Range;
 use crate::stamps::Stamps;
 use crate::telling::write_batch;
 use diag_bus::{Clock, ResponseIds};
-use diag_can::{BusLine, FrameBytes, FrameText, TickCount};
+use diag_can::{BusLine, FrameText, KeptBytes, TickCount};
 use diag_ecu::Ecu;
 use diag_exchange::CaptureLine;
 use diag_expect::Entered;
@@ -70,40 +70,60 @@ fn unit_side(setup: &Setup, who: TesterId) -> LinkSetup
 #[derive(Drop)]
 struct UnitFrame {
     who: TesterId,
-    bytes: FrameBytes,
+    bytes: KeptBytes,
 }
 
 /// A line's frame, where it is one of the unit's.
-fn unit_frame(responses: &ResponseIds, setup: &Setup, said: &BusLine) -> Option<UnitFrame>
+fn unit_frame(
+    alloc: Global,
+    responses: &ResponseIds,
+    setup: &Setup,
+    said: &BusLine,
+) -> Result<Option<UnitFrame>, AllocError>
     requires { AreResponsesOf setup.now responses.now }
-    ensures { IsUnitFrame setup.now (frame_said said.now) result }
+    ensures { IfOk result (λ sent. IsUnitFrame setup.now (frame_said said.now) sent) }
 {
     match said {
-        BusLine::Empty | BusLine::Ticks(_) => None,
+        BusLine::Empty | BusLine::Ticks(_) => Ok(None),
         BusLine::Stamped { moment: _, frame } => match frame {
-            Some(frame) => sent_to(responses.responder(setup, frame.id()), frame),
-            None => None,
+            Some(frame) => sent_to(alloc, responses.responder(setup, frame.id()), frame),
+            None => Ok(None),
         },
     }
 }
 
 /// A frame, where it is to a tester.
 #[inline(always)]
-fn sent_to(responder: Option<TesterId>, frame: &FrameText) -> Option<UnitFrame>
-    ensures { result ≡ option_map (sent_to frame.now.bytes) responder }
+fn sent_to(
+    alloc: Global,
+    responder: Option<TesterId>,
+    frame: &FrameText,
+) -> Result<Option<UnitFrame>, AllocError>
+    ensures { IfOk result (λ sent. sent ≡ option_map (sent_to frame.now.bytes) responder) }
 {
     match responder {
-        Some(who) => Some(UnitFrame {
+        Some(who) => Ok(Some(UnitFrame {
             who,
-            bytes: frame.bytes(),
-        }),
-        None => None,
+            bytes: kept(alloc, frame)?,
+        })),
+        None => Ok(None),
     }
+}
+
+/// A frame's bytes, kept.
+#[inline(always)]
+fn kept(alloc: Global, frame: &FrameText) -> Result<KeptBytes, AllocError>
+    ensures { IfOk result (λ bytes. bytes ≡ frame.now.bytes) }
+{
+    if frame.is_long() {
+        return KeptBytes::of(alloc, frame.long_bytes().as_slice());
+    }
+    Ok(KeptBytes::short(frame.bytes()))
 }
 
 /// Its bytes, where it is to this tester.
 #[inline(always)]
-fn bytes_to(sent: Option<&UnitFrame>, who: TesterId) -> Option<&FrameBytes>
+fn bytes_to(sent: Option<&UnitFrame>, who: TesterId) -> Option<&KeptBytes>
     ensures { option_copied result ≡ bytes_to (option_copied sent.entry) who }
 {
     match sent {
@@ -295,7 +315,8 @@ impl ExchangeLines {
             moment: clock.time,
         };
         self.batch.clear();
-        let sent = unit_frame(&self.responses, setup, said);
+        let alloc = *self.batch.allocator();
+        let sent = unit_frame(alloc, &self.responses, setup, said)?;
         self.busy = asked(self.busy, sent.as_ref());
         self.busy = take_each(
             &mut self.testers,

@@ -1,12 +1,12 @@
--- Patterns, templates and a row of answers as they are read, computed.
+-- Patterns, templates, a row of answers and a tester of CAN FD as they are read, computed.
 use Rattle.std.proofs.Common.{◌≡◌, true, false, [], ◌∷◌, Some, None, Ok, Err, pos, refl, codes}
-use Rattle.diag_setup.specs.ExampleSetup.{echo_row, rounds_row, enter_row}
+use Rattle.diag_setup.specs.ExampleSetup.{tester, echo_row, rounds_row, enter_row}
 use Rattle.diag_setup.specs.declared.raw.PatternItem.TheVariants as patterns
 use Rattle.diag_setup.specs.declared.raw.TemplateItem.TheVariants as items
-use Rattle.toml.specs.Data.{string, integer, array, no_items, item, no_members, member}
+use Rattle.toml.specs.Data.{Members, Data, string, integer, boolean, array, no_items, item, no_members, member}
 use Rattle.diag_config.specs.Answer.{pattern_of, template_of}
 use Rattle.diag_config.specs.Key.{bad_value}
-use Rattle.diag_config.specs.Setup.{template, list, required, optional, with_default, answer_at, ignore_at}
+use Rattle.diag_config.specs.Setup.{template, list, required, optional, with_default, tester_at, transport_at, answer_at, ignore_at}
 
 echo_pattern : pattern_of (codes "28....*") ≡ Some (record { items = echo_row.pattern; more = true })
 echo_pattern = refl
@@ -79,3 +79,26 @@ ignored_text_alone = refl
 ignored_half_an_item : ignore_at (member (codes "ignore") (array (item (string (codes "3E8")) no_items)) no_members) ≡ Err (bad_value (codes "ignore"))
 unfolding ignore_at with_default
 ignored_half_an_item = refl
+
+-- the keys of a tester, where `fd` holds this
+abbrev tester_with : Data → Members
+tester_with fd =
+    member (codes "name") (string (codes "A"))
+    (member (codes "request") (integer (pos 0x7E0)) (member (codes "response") (integer (pos 0x7E8)) (member (codes "fd") fd no_members)))
+
+fd_tester : tester_at (tester_with (boolean true)) ≡ Ok (record (tester (codes "A") 0x7E0 0x7E8) { fd = true })
+unfolding tester_at required optional with_default
+fd_tester = refl
+
+fd_of_one : tester_at (tester_with (integer (pos 1))) ≡ Err (bad_value (codes "tester.fd"))
+unfolding tester_at required optional with_default
+fd_of_one = refl
+
+link_defaults : transport_at no_members
+    ≡ Ok (record { block_size = 0; st_min = 0; max_request = 4095; pad = true; pad_byte = 0xCC; tx_dl = 64; fd_flags = 1 })
+unfolding transport_at with_default
+link_defaults = refl
+
+tx_dl_before_flags : transport_at (member (codes "fd_flags") (boolean true) (member (codes "tx_dl") (boolean true) no_members)) ≡ Err (bad_value (codes "tx_dl"))
+unfolding transport_at with_default
+tx_dl_before_flags = refl

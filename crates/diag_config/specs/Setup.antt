@@ -116,12 +116,14 @@ tester_at ms = do
   response ← required number ms (codes "response") (codes "tester.response")
   extended ← with_default truth ms (codes "extended") (codes "tester.extended") false
   functional ← optional number ms (codes "functional") (codes "tester.functional")
+  fd ← with_default truth ms (codes "fd") (codes "tester.fd") false
   Ok (record {
     name = name;
     request = request;
     response = response;
     extended = extended;
     functional = functional;
+    fd = fd;
   })
 
 unfoldable pub did_at : Members → Result RawDid Fault
@@ -230,12 +232,16 @@ transport_at ms = do
   max_request ← at_top number ms (codes "max_request") 4095
   pad ← at_top truth ms (codes "pad") true
   pad_byte ← at_top number ms (codes "pad_byte") 204
+  tx_dl ← at_top number ms (codes "tx_dl") 64
+  fd_flags ← at_top number ms (codes "fd_flags") 1
   Ok (record {
     block_size = block_size;
     st_min = st_min;
     max_request = max_request;
     pad = pad;
     pad_byte = pad_byte;
+    tx_dl = tx_dl;
+    fd_flags = fd_flags;
   })
 
 unfoldable pub server_at : Members → Result ServerValues Fault
@@ -290,6 +296,8 @@ setup_at ms = do
     max_request = transport.max_request;
     pad = transport.pad;
     pad_byte = transport.pad_byte;
+    tx_dl = transport.tx_dl;
+    fd_flags = transport.fd_flags;
     availability = server.availability;
     functional = server.functional;
     attempts = server.attempts;

@@ -33,6 +33,8 @@ struct LinkValues {
     max_request: u32,
     pad: bool,
     pad_byte: u32,
+    tx_dl: u32,
+    fd_flags: u32,
 }
 
 /// What the services have in common.
@@ -65,12 +67,14 @@ impl FromTable for RawTester {
         let response: u32 = required(alloc, table, "response", "tester.response")?;
         let extended = with_default(alloc, table, "extended", "tester.extended", false)?;
         let functional = optional(alloc, table, "functional", "tester.functional")?;
+        let fd = with_default(alloc, table, "fd", "tester.fd", false)?;
         Ok(RawTester {
             name: name.0,
             request,
             response,
             extended,
             functional,
+            fd,
         })
     }
 }
@@ -234,12 +238,16 @@ fn transport(alloc: Global, table: &Table) -> Result<LinkValues, KeyFault>
     let max_request = at_top(alloc, table, "max_request", 4095u32)?;
     let pad = at_top(alloc, table, "pad", true)?;
     let pad_byte = at_top(alloc, table, "pad_byte", 204u32)?;
+    let tx_dl = at_top(alloc, table, "tx_dl", 64u32)?;
+    let fd_flags = at_top(alloc, table, "fd_flags", 1u32)?;
     Ok(LinkValues {
         block_size,
         st_min,
         max_request,
         pad,
         pad_byte,
+        tx_dl,
+        fd_flags,
     })
 }
 
@@ -312,6 +320,8 @@ pub fn setup(alloc: Global, table: &Table) -> Result<RawSetup, KeyFault>
         max_request: transport.max_request,
         pad: transport.pad,
         pad_byte: transport.pad_byte,
+        tx_dl: transport.tx_dl,
+        fd_flags: transport.fd_flags,
         availability: server.availability,
         functional: server.functional,
         attempts: server.attempts,

@@ -16,6 +16,7 @@ use Rattle.diag_can.specs.Stamp.{◌>>=◌, behind_name, digits_of, is_digit, mo
 use Rattle.diag_can.specs.declared.bus_line.BusLine.TheVariants.{Stamped}
 use Rattle.diag_can.specs.declared.fault.LineFault.{LineFault}
 use Rattle.diag_can.specs.declared.frame.Frame.{Frame}
+use Rattle.diag_can.specs.declared.frame.KnownId.{KnownId}
 use Rattle.diag_can.proofs.Runs.{run-passes}
 use Rattle.diag_can.proofs.TickFronts.{begins}
 use Rattle.diag_can.proofs.UsualLines.{bus_line-says, bus_line-short}
@@ -219,7 +220,7 @@ no_return front =
 -- ---- what the line says
 
 -- a line that tells the time has a stamp
-stamped_parts : (known line : List ℕ) (moment : ℕ) (frame : Option Frame) → line_says known line ≡ Ok (Stamped moment frame)
+stamped_parts : (known : List KnownId) (line : List ℕ) (moment : ℕ) (frame : Option Frame) → line_says known line ≡ Ok (Stamped moment frame)
     → (m : ℕ × List ℕ) × (stamp_of line ≡ Some m) × (m.0 ≡ moment)
 stamped_parts known [] moment frame h = cc h
 stamped_parts known (c ∷ line) moment frame h = pick (is_time (c ∷ line)) h
@@ -247,13 +248,13 @@ stamped_parts known (c ∷ line) moment frame h = pick (is_time (c ∷ line)) h
     pick false is = on (stamp_of (c ∷ line)) is
 
 -- a stamp with that frame behind it
-alone_says : (known : List ℕ) (moment : ℕ) (seconds fraction : List ℕ) → Stamp moment seconds fraction
+alone_says : (known : List KnownId) (moment : ℕ) (seconds fraction : List ℕ) → Stamp moment seconds fraction
     → line_says known (stamp_text seconds fraction ++ tail) ≡ Ok (Stamped moment None)
 alone_says known moment seconds fraction s =
     ap (λ (o : Option (ℕ × List ℕ)). stamped_line known (o >>= λ s. behind_name s.1 >>= λ text. Some (s.0, text)))
     (stamp_again moment seconds fraction s (codes " other 000#R"))
 
-pub time_says : (known line : List ℕ) (moment : ℕ) (frame : Option Frame) → bus_line [] line ≡ Ok (Stamped moment frame)
+pub time_says : (known : List KnownId) (line : List ℕ) (moment : ℕ) (frame : Option Frame) → bus_line [] line ≡ Ok (Stamped moment frame)
     → bus_line known (time_alone line) ≡ Ok (Stamped moment None)
 time_says known line moment frame h =
     let found = stamped_parts [] (without_return line) moment frame (bus_line-says [] line (Stamped moment frame) h) in

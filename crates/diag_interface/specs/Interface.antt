@@ -9,6 +9,7 @@ use Rattle.diag_can.specs.declared.bus_line.BusLine.{BusLine}
 use Rattle.diag_can.specs.declared.bus_line.BusLine.TheVariants.{Stamped}
 use Rattle.diag_can.specs.declared.fault.LineFault.{LineFault}
 use Rattle.diag_can.specs.declared.frame.Frame.{Frame}
+use Rattle.diag_can.specs.declared.frame.KnownId.{KnownId}
 
 -- ---- a line
 
@@ -45,8 +46,8 @@ abbrev pub only_text : List ℕ → List ℕ → List ℕ
 only_text name text = join_with_byte 10 (map (only_line name) (slice_split is_feed text))
 
 -- The lines of that text are those of the recording, one for one, so each keeps its number. And one of another interface tells
--- its time and no frame, whichever identifiers of 29 bits are read.
+-- its time and no frame, whichever identifiers are read.
 pub record InterfaceLaw : Type 0 where
   pub lines : (name text : List ℕ) → bus_lines (only_text name text) ≡ map (only_line name) (bus_lines text)
-  pub time : (known line : List ℕ) (moment : ℕ) (frame : Option Frame) → bus_line [] line ≡ Ok (Stamped moment frame)
+  pub time : (known : List KnownId) (line : List ℕ) (moment : ℕ) (frame : Option Frame) → bus_line [] line ≡ Ok (Stamped moment frame)
       → bus_line known (time_alone line) ≡ Ok (Stamped moment None)

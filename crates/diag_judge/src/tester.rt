@@ -5,7 +5,7 @@ ghost use Rattle.diag_exchange.specs.Agreeing.{agrees};
 ghost use Rattle.diag_exchange.specs.declared.happening.Over.{Over as AnOver};
 ghost use Rattle.diag_judge.specs.Judging.{AreCounts, EndsCounted, EndsJudged, HearsLine, HearsRequests, Judges, JudgesLine, judged_for};
 
-use diag_can::FrameBytes;
+use diag_can::KeptBytes;
 use diag_exchange::{CaptureLine, Over};
 use diag_expect::Entered;
 use diag_listen::Listener;
@@ -132,7 +132,7 @@ impl Tester {
         who: TesterId,
         at: CaptureLine,
         span: u64,
-        frame: Option<&FrameBytes>,
+        frame: Option<&KeptBytes>,
         judged: &mut Vec<Judged>,
     ) -> Result<(), AllocError>
         ensures judges { OnOk result (JudgesLine setup.now at who self.old self.new judged.old.items judged.new.items span
@@ -164,7 +164,7 @@ impl Tester {
         who: TesterId,
         at: CaptureLine,
         span: u64,
-        frame: Option<&FrameBytes>,
+        frame: Option<&KeptBytes>,
         judged: &mut Vec<Judged>,
     ) -> Result<(), AllocError>
         ensures judges { OnOk result (JudgesLine setup.now at who self.old self.new judged.old.items judged.new.items span
@@ -187,7 +187,7 @@ impl Tester {
         setup: &Setup,
         at: CaptureLine,
         span: u64,
-        frame: Option<&FrameBytes>,
+        frame: Option<&KeptBytes>,
     ) -> Result<(), AllocError>
         ensures heard { OnOk result (HearsLine setup.now at self.old.listener self.new.listener [] self.new.over.items
             span self.old.entered.items (option_copied frame.entry)) }
@@ -206,7 +206,7 @@ impl Tester {
             &mut self.over,
         )?;
         match frame {
-            Some(frame) => self.listener.take(at, frame, &mut self.over),
+            Some(frame) => self.listener.take(at, frame.as_slice(), &mut self.over),
             None => Ok(()),
         }
     }

@@ -1,5 +1,5 @@
 -- What is kept of the message that is coming in tells what an event of the unit's side is.
-use Rattle.std.proofs.Common.{◌≡◌, ◌≤◌, ◌<◌, ◌⊎◌, inl, inr, ℕ, zero, suc, ◌+◌, ◌/◌, ◌%◌, ◌==◌, Bool, true, false, Option, Some, None, List, [], ◌∷◌, ◌++◌, length, map, replicate, refl, ap, ap₂, subst, sym, ◌∙◌, append_assoc, arith}
+use Rattle.std.proofs.Common.{◌≡◌, ◌≤◌, ◌<◌, ◌⊎◌, inl, inr, ℕ, zero, suc, ◌/◌, ◌%◌, ◌==◌, Bool, true, false, Option, Some, None, List, [], ◌∷◌, ◌++◌, replicate, refl, ap, ap₂, subst, sym, ◌∙◌, append_assoc, arith}
 use Rattle.std.proofs.lemmas.Bool.Decides.{nat_tests}
 use Rattle.std.proofs.lemmas.List.{append-nil}
 use Rattle.std.specs.Prelude.{if◌then◌else◌, is_some, min, nat_lt, not, option_and_then, ◌&&◌, Result, Ok, Err, OnOk}
@@ -9,7 +9,6 @@ use Rattle.diag_can.specs.declared.frame.Event.TheVariants.{Physical, Functional
 use Rattle.diag_pdu.specs.Kind.{IsRead, kind, Kind, Single, First, Overflow, Consecutive, FlowControl, Ignored}
 use Rattle.diag_pdu.specs.declared.setup.LinkSetup.{LinkSetup}
 use Rattle.diag_sides.specs.Receiver.{Receiving, ask_of, completed_by, one_tick_later, open_after, ticks_later}
-use Rattle.diag_tp.specs.Gives.{gives}
 use Rattle.diag_tp.specs.Link.{asked_of, unfinished}
 use Rattle.diag_tp.specs.Moments.{history, last_time, now}
 use Rattle.diag_tp.specs.Reception.{Reception, open_at}
@@ -19,10 +18,10 @@ use Rattle.diag_exchange.specs.Exchanges.{over_after, over_with}
 use Rattle.diag_exchange.specs.Taking.{Stands, Took, TookSilently}
 use Rattle.diag_exchange.specs.declared.exchanges.Exchanges.{Exchanges}
 use Rattle.diag_exchange.specs.declared.happening.Happening.{Happening}
-use Rattle.diag_exchange.specs.declared.happening.Happening.TheVariants.{Began, Came, Lost}
+use Rattle.diag_exchange.specs.declared.happening.Happening.TheVariants.{Came}
 use Rattle.diag_exchange.specs.declared.happening.Over.{Over}
 use Rattle.diag_exchange.specs.declared.happening.CaptureLine.{CaptureLine}
-use Rattle.diag_listen.specs.Listening.{HasMoved, Hears, Listens, Moves, TookEach, after_ticks, all_happen, began, breaks, came, came_by, frame_happens, is_unfinished, kind_happens, lost_if, part_happens, partial_of, receives, ticks_happen, unit_happens}
+use Rattle.diag_listen.specs.Listening.{HasMoved, Hears, Listens, Moves, TookEach, after_ticks, all_happen, began, breaks, came, came_by, frame_happens, is_unfinished, kind_happens, lost_if, partial_of, receives, ticks_happen, unit_happens}
 use Rattle.diag_listen.specs.declared.listener.Listener.{Listener}
 
 -- ---- what is kept
@@ -74,7 +73,7 @@ kind_is s at E bytes read = of_kind (kind bytes s.max_request) refl
   where
     of_kind : (k : Kind) → kind bytes s.max_request ≡ k → frame_happens s at E bytes k ≡ kind_happens (partial_of s E) at k
     of_kind (Single payload) e = ap (λ b. lost_if b ++ began at payload ∷ Came payload ∷ []) (kept s E)
-    of_kind (First len head) e = ap (λ b. lost_if b ++ began at head ∷ []) (kept s E)
+    of_kind (First len rx_dl head) e = ap (λ b. lost_if b ++ began at head ∷ []) (kept s E)
     of_kind Overflow e = ap lost_if (kept s E)
     of_kind (Consecutive sequence_number part) e =
         let k = Consecutive sequence_number part in
@@ -234,6 +233,18 @@ waits_none own out at ms none E hs l = goes_by own out at E (waited ms) hs (wait
     no_partial : (o : Option Receiving) → is_some o ≡ false → o ≡ None
     no_partial None e = refl
     no_partial (Some p) e = cc
+
+-- no time is nothing heard
+pub waits_not : (own : Listener) (out : List Over) (at : CaptureLine) (ms : ℕ) → ms ≡ 0 → Hears own own out out at (waited ms)
+waits_not own out at ms none E hs l =
+    let nothing : waited ms ≡ [] = ap waited none in
+    subst (λ (es : List Event). Listens own (E ++ es) (hs ++ all_happen own.setup at E es) × (out ≡ out ++ over_after hs (all_happen own.setup at E es)))
+    (sym nothing) (goes_by_none own out E hs l)
+  where
+    goes_by_none : (own : Listener) (out : List Over) (E : List Event) (hs : List Happening) → Listens own E hs
+        → Listens own (E ++ []) (hs ++ []) × (out ≡ out ++ [])
+    goes_by_none own out E hs l =
+        (subst (λ (F : List Event). Listens own F (hs ++ [])) (sym (append-nil E)) (subst (λ w. Listens own E w) (sym (append-nil hs)) l), sym (append-nil out))
 
 -- ticks, and where they end the message any more
 hears_ticks : (old new : Listener) (out out' : List Over) (at : CaptureLine) (m : ℕ) (es : List Event) → AreTicks es

@@ -1,5 +1,5 @@
 -- What the events of a unit's side are to its messages, and what is kept of them.
-use Rattle.std.specs.Prelude.{◌≡◌, ℕ, ◌&&◌, nat_lt, not, Bool, true, false, if◌then◌else◌, List, [], ◌∷◌, ◌++◌, length, slice_get, slice_index, Option, Some, None, is_some, option_and_then}
+use Rattle.std.specs.Prelude.{◌≡◌, ℕ, ◌&&◌, nat_lt, not, Bool, true, false, List, [], ◌∷◌, ◌++◌, length, slice_get, slice_index, Option, Some, None, is_some, option_and_then}
 use Rattle.diag_can.specs.declared.frame.Event.{Event}
 use Rattle.diag_can.specs.declared.frame.Event.TheVariants.{Physical, Functional, Ticks}
 use Rattle.diag_pdu.specs.Cut.{consecutive_count}
@@ -27,7 +27,7 @@ use Rattle.diag_listen.specs.declared.listener.Listener.{Listener}
 -- some part is to come
 abbrev pub is_unfinished : Option Reception → Bool
 is_unfinished None = false
-is_unfinished (Some r) = nat_lt (length r.parts) (consecutive_count r.len)
+is_unfinished (Some r) = nat_lt (length r.parts) (consecutive_count r.rx_dl r.len)
 
 -- a message is coming in
 abbrev pub receives : LinkSetup → List Event → Bool
@@ -51,7 +51,7 @@ breaks s E e = receives s E && not (receives s (E ++ e ∷ []))
 
 abbrev pub frame_happens : LinkSetup → CaptureLine → List Event → List ℕ → Kind → List Happening
 frame_happens s at E bytes (Single payload) = lost_if (receives s E) ++ began at payload ∷ Came payload ∷ []
-frame_happens s at E bytes (First len head) = lost_if (receives s E) ++ began at head ∷ []
+frame_happens s at E bytes (First len rx_dl head) = lost_if (receives s E) ++ began at head ∷ []
 frame_happens s at E bytes Overflow = lost_if (receives s E)
 frame_happens s at E bytes (Consecutive sequence_number part) =
     came (gives s E (Physical bytes)) (breaks s E (Physical bytes))
@@ -81,7 +81,7 @@ part_happens o k = came_by (completed_by o k) (is_some o && not (is_some (open_a
 -- what a frame of this kind is
 abbrev pub kind_happens : Option Receiving → CaptureLine → Kind → List Happening
 kind_happens o at (Single payload) = lost_if (is_some o) ++ began at payload ∷ Came payload ∷ []
-kind_happens o at (First len head) = lost_if (is_some o) ++ began at head ∷ []
+kind_happens o at (First len rx_dl head) = lost_if (is_some o) ++ began at head ∷ []
 kind_happens o at Overflow = lost_if (is_some o)
 kind_happens o at (Consecutive sequence_number part) = part_happens o (Consecutive sequence_number part)
 kind_happens o at (FlowControl flow_status block_size st_min) = []

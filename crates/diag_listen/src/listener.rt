@@ -1,18 +1,19 @@
 //! The unit's side to a tester, as it is heard.
 
-ghost use Rattle.std.specs.Prelude.{◌≡◌, ◌≤◌, [], ◌∷◌, ◌++◌, length, is_some, None, Some, IsSome, OnOk};
+ghost use Rattle.std.specs.Prelude.{◌≡◌, ◌≤◌, ◌<◌, [], ◌∷◌, ◌++◌, length, is_some, None, Some, IsSome, OnOk};
 ghost use Rattle.diag_can.specs.declared.frame.Event.{Event as AnEvent};
 ghost use Rattle.diag_can.specs.Log.{waited};
 ghost use Rattle.diag_pdu.specs.Kind.{Consecutive, IsRead, says};
 ghost use Rattle.diag_pdu.specs.Cut.{head_size};
+ghost use Rattle.diag_pdu.specs.Length.{single_most};
 ghost use Rattle.diag_sides.specs.Receiver.{begun_receiving, open_after};
 ghost use Rattle.diag_exchange.specs.Taking.{Ended};
 ghost use Rattle.diag_exchange.specs.declared.happening.Happening.TheVariants.{Began, Came};
 ghost use Rattle.diag_listen.specs.Listening.{Hears, HearsRequest, Listens, Moves, TookEach, after_ticks, began, kind_happens, lost_if, part_happens, ticks_happen};
 
-use diag_can::{FrameBytes, TickCount};
+use diag_can::TickCount;
 use diag_exchange::{AskedRequest, CaptureLine, Exchanges, Over, Start};
-use diag_pdu::{LinkSetup, Message, Pci};
+use diag_pdu::{DataLength, LinkSetup, Message, Pci};
 use diag_sides::Receiver;
 use std::alloc::{AllocError, Global};
 
@@ -92,25 +93,22 @@ impl Listener {
         self.lose(over)
     }
 
-    /// Hears a frame of the unit.
+    /// Hears a frame of the unit, of either kind.
     ///
     /// # Errors
     /// As `wait`.
     pub fn take(
         &mut self,
         at: CaptureLine,
-        frame: &FrameBytes,
+        frame: &[u8],
         over: &mut Vec<Over>,
     ) -> Result<(), AllocError>
+        requires { length frame.now ≤ 64 }
         ensures heard { OnOk result (Hears self.old self.new over.old.items over.new.items at
             (AnEvent.Physical frame.now ∷ [])) }
         ensures setup { self.new.setup ≡ self.old.setup }
     {
-        self.take_pci(
-            at,
-            Pci::read(frame.as_slice(), self.setup.max_request),
-            over,
-        )
+        self.take_pci(at, Pci::read(frame, self.setup.max_request), over)
     }
 
     /// Hears a request of the tester, complete.
@@ -151,7 +149,7 @@ impl Listener {
     {
         match pci {
             Pci::Single(payload) => self.take_single(at, payload, over),
-            Pci::First { len, head } => self.take_first(at, len, head, over),
+            Pci::First { len, rx_dl, head } => self.take_first(at, len, rx_dl, head, over),
             Pci::Overflow => self.lose(over),
             Pci::Consecutive {
                 sequence_number,
@@ -168,15 +166,15 @@ impl Listener {
         payload: &[u8],
         over: &mut Vec<Over>,
     ) -> Result<(), AllocError>
-        requires { (1 ≤ length payload.now) × (length payload.now ≤ 7) }
+        requires { (1 ≤ length payload.now) × (length payload.now ≤ 62) }
         ensures moves { OnOk result (Moves self.old self.new over.old.items over.new.items
             (lost_if (is_some self.old.receiver.partial) ++ began at payload.now ∷ Came payload.now ∷ []) None) }
         ensures setup { self.new.setup ≡ self.old.setup }
     {
+        let message = Message::of(*over.allocator(), payload)?;
         self.lose(over)?;
         self.exchanges.begin(start_of(at, payload));
-        self.exchanges
-            .come(Message::in_place(FrameBytes::from_slice(payload)), over)
+        self.exchanges.come(message, over)
     }
 
     /// The first frame of a message of several frames.
@@ -184,18 +182,20 @@ impl Listener {
         &mut self,
         at: CaptureLine,
         len: u16,
+        rx_dl: DataLength,
         head: &[u8],
         over: &mut Vec<Over>,
     ) -> Result<(), AllocError>
-        requires { (8 ≤ len) × (length head.now ≡ head_size len) }
+        requires long { single_most rx_dl < len }
+        requires head { length head.now ≡ head_size rx_dl len }
         ensures moves { OnOk result (Moves self.old self.new over.old.items over.new.items
             (lost_if (is_some self.old.receiver.partial) ++ began at head.now ∷ [])
-            (Some (begun_receiving len head.now))) }
+            (Some (begun_receiving len rx_dl head.now))) }
         ensures setup { self.new.setup ≡ self.old.setup }
     {
         self.lose(over)?;
         self.receiver.reserve(len)?;
-        self.receiver.begin(len, head);
+        self.receiver.begin(len, rx_dl, head);
         self.exchanges.begin(start_of(at, head));
         Ok(())
     }
@@ -209,7 +209,7 @@ impl Listener {
         over: &mut Vec<Over>,
     ) -> Result<(), AllocError>
         requires kind { says pci ≡ Consecutive sequence_number part.now }
-        requires few { length part.now ≤ 7 }
+        requires few { length part.now ≤ 63 }
         ensures moves { OnOk result (Moves self.old self.new over.old.items over.new.items
             (part_happens self.old.receiver.partial (Consecutive sequence_number part.now))
             (open_after self.old.receiver.partial (Consecutive sequence_number part.now))) }

@@ -1,4 +1,5 @@
 -- The number in the input of a line of the capture; and the ticks that pass.
+use Rattle.diag_can.specs.declared.frame.KnownId.{KnownId}
 use Rattle.std.proofs.Common.{◌≡◌, ◌⊎◌, ℕ, ◌+◌, ◌-◌, ◌/◌, ◌%◌, ◌<◌, ◌≤◌, ◌==◌, nat_le, min, max, Bool, true, false, cond, List, [], ◌∷◌, ◌++◌, length, map, take, replicate, Option, None, Some, Result, Ok, Err, inl, inr, refl, sym, ap, ◌∙◌, length-append, suc, zero, arith}
 use Rattle.std.proofs.lemmas.Bool.Decides.{nat_tests}
 use Rattle.std.proofs.lemmas.List.{length-take, take-append-le, take-map}
@@ -42,7 +43,7 @@ pub all_heard : (lines : List (List ℕ)) → lines_of (map Heard lines) ≡ lin
 all_heard [] = refl
 all_heard (line ∷ lines) = ap (λ (l : List (List ℕ)). line ∷ l) (all_heard lines)
 
-module _ (known : List ℕ) where
+module _ (known : List KnownId) where
   most_ticks : (n : ℕ) → AreTicks (replicate n (Ticked 60000)) × AreGood known (replicate n (Ticked 60000))
   most_ticks zero = (tt, tt)
   most_ticks (suc n) = ((most_ticks n).0, ((omega arith, omega arith), (most_ticks n).1))

@@ -1,4 +1,5 @@
 -- The lines of a record.
+use Rattle.diag_can.specs.declared.frame.KnownId.{KnownId}
 use Rattle.std.proofs.Common.{◌≡◌, ℕ, ◌+◌, ◌<◌, ◌≤◌, ◌==◌, Bool, true, false, cond, All, not, ◌&&◌, List, [], ◌∷◌, ◌++◌, length, codes, decimal, refl, sym, ap, ◌∙◌, append_assoc, arith, suc, zero, get_or}
 use Rattle.std.specs.Prelude.{Ok}
 use Rattle.std.specs.List.{after_first, position_or_len, list_all}
@@ -27,7 +28,7 @@ lines_of-append a b = filter_map-append heard_line a b
 pub record_text-append : (a b : List (List ℕ)) → record_text (a ++ b) ≡ record_text a ++ record_text b
 record_text-append a b = flat_map-append with_feed a b
 
-pub good_join : (known : List ℕ) (a b : List Taken) → AreGood known a → AreGood known b → AreGood known (a ++ b)
+pub good_join : (known : List KnownId) (a b : List Taken) → AreGood known a → AreGood known b → AreGood known (a ++ b)
 good_join known [] b x y = y
 good_join known (t ∷ a) b x y = (x.0, good_join known a b x.1 y)
 
@@ -119,7 +120,7 @@ plain_ticks count few =
     All-append (λ c. is_feed c ≡ false) (codes "tick ") (decimal count) (no_feed_in (codes "tick ") refl)
     (no_feed_in (decimal count) (digits_plain (decimal count) (decimal_digits count (omega (arith, few)))))
 
-module _ (known : List ℕ) where
+module _ (known : List KnownId) where
   plain_one : (t : Taken) → IsGood known t → HasNoFeed (capture_line t)
   plain_one (Heard bytes) good = plain_restamped bytes good.0
   plain_one (Ticked count) good = plain_ticks count good.1

@@ -1,4 +1,5 @@
 -- A line with the null stamp says what it said with its own.
+use Rattle.diag_can.specs.declared.frame.KnownId.{KnownId}
 use Rattle.std.proofs.Common.{suc, ◌≡◌, ◌⊎◌, ℕ, ◌+◌, ◌-◌, ◌*◌, ◌^◌, ◌<◌, ◌≤◌, ◌==◌, nat_le, nat_lt, Bool, true, false, cond, List, [], ◌∷◌, ◌++◌, length, take, drop, get_or, Option, None, Some, Result, Ok, Err, codes, decimal, inl, inr, refl, sym, ap, subst, ◌∙◌, append_assoc, length-append, arith}
 use Rattle.std.specs.Prelude.{◌&&◌}
 use Rattle.std.specs.List.{after_first, ends_with, list_all, position_or_len, prefix_len}
@@ -176,7 +177,7 @@ return_parts line = pick (ends_with ◌==◌ line (13 ∷ [])) refl
 abbrev null_front : List ℕ
 null_front = codes "(0.000000"
 
-at_null : (known : List ℕ) (o : Option (List ℕ)) (m : ℕ) (said : BusLine) → stamped_line known (o >>= λ text. Some (m, text)) ≡ Ok said
+at_null : (known : List KnownId) (o : Option (List ℕ)) (m : ℕ) (said : BusLine) → stamped_line known (o >>= λ text. Some (m, text)) ≡ Ok said
     → stamped_line known (o >>= λ text. Some (0, text)) ≡ Ok (but_for_moment said)
 at_null known None m said h = cc h
 at_null known (Some text) m said h = pick (text_frame known text) h
@@ -186,13 +187,13 @@ at_null known (Some text) m said h = pick (text_frame known text) h
     pick (Ok frame) is = ap (λ (b : BusLine). Ok (but_for_moment b)) (ok_same is)
 
 -- what a stamped text says with the null stamp
-null_says : (known : List ℕ) (o : Option (ℕ × List ℕ)) (said : BusLine) → stamped_line known (o >>= λ s. behind_name s.1 >>= λ text. Some (s.0, text)) ≡ Ok said
+null_says : (known : List KnownId) (o : Option (ℕ × List ℕ)) (said : BusLine) → stamped_line known (o >>= λ s. behind_name s.1 >>= λ text. Some (s.0, text)) ≡ Ok said
     → (m : ℕ × List ℕ) × (o ≡ Some m) × (line_says known (null_front ++ 41 ∷ m.1) ≡ Ok (but_for_moment said))
 null_says known None said h = cc h
 null_says known (Some m) said h = (m, refl, at_null known (behind_name m.1) m.0 said h)
 
 -- a line without a stamp says no moment
-unstamped : (known line : List ℕ) (said : BusLine) → (get_or line 0 0 == 40) ≡ false → line_says known line ≡ Ok said → but_for_moment said ≡ said
+unstamped : (known : List KnownId) (line : List ℕ) (said : BusLine) → (get_or line 0 0 == 40) ≡ false → line_says known line ≡ Ok said → but_for_moment said ≡ said
 unstamped known [] said other h = ap but_for_moment (sym (ok_same h)) ∙ ok_same h
 unstamped known (c ∷ line) said other h = pick (is_time (c ∷ line)) h
   where
@@ -208,7 +209,7 @@ unstamped known (c ∷ line) said other h = pick (is_time (c ∷ line)) h
     pick false is = cc (sym (ap (stamped_line known) none) ∙ is)
 
 -- a line of at most 4096 bytes
-of_size : (known line : List ℕ) (said : BusLine) → bus_line known line ≡ Ok said → (length line ≤ 4096) × (line_says known (without_return line) ≡ Ok said)
+of_size : (known : List KnownId) (line : List ℕ) (said : BusLine) → bus_line known line ≡ Ok said → (length line ≤ 4096) × (line_says known (without_return line) ≡ Ok said)
 of_size known line said h = pick (nat_lt 4096 (length line)) refl h
   where
     pick : (b : Bool) → nat_lt 4096 (length line) ≡ b → cond b (Err BadLine) (line_says known (without_return line)) ≡ Ok said
@@ -216,11 +217,11 @@ of_size known line said h = pick (nat_lt 4096 (length line)) refl h
     pick true long is = cc is
     pick false long is = (grind (arith, nat_tests, long), is)
 
-bus_line_of : (known line : List ℕ) → length line ≤ 4096 → bus_line known line ≡ line_says known (without_return line)
+bus_line_of : (known : List KnownId) (line : List ℕ) → length line ≤ 4096 → bus_line known line ≡ line_says known (without_return line)
 bus_line_of known line short = let no : nat_lt 4096 (length line) ≡ false = grind (arith, nat_tests) in rw no refl
 
 -- a line that begins with a bracket, with its stamp
-module _ (known l : List ℕ) (said : BusLine) (h : bus_line known (40 ∷ l) ≡ Ok said) where
+module _ (known : List KnownId) (l : List ℕ) (said : BusLine) (h : bus_line known (40 ∷ l) ≡ Ok said) where
   abbrev bare : List ℕ
   bare = without_return (40 ∷ l)
 
@@ -269,7 +270,7 @@ module _ (known l : List ℕ) (said : BusLine) (h : bus_line known (40 ∷ l) �
       parts : (without_return (40 ∷ l) ≡ 40 ∷ l) ⊎ (40 ∷ l ≡ without_return (40 ∷ l) ++ 13 ∷ []) → (bare ≡ 40 ∷ l) ⊎ (40 ∷ l ≡ bare ++ 13 ∷ [])
       parts x = x
 
-pub restamped_says : (known line : List ℕ) (said : BusLine) → bus_line known line ≡ Ok said → bus_line known (restamped line) ≡ Ok (but_for_moment said)
+pub restamped_says : (known : List KnownId) (line : List ℕ) (said : BusLine) → bus_line known line ≡ Ok said → bus_line known (restamped line) ≡ Ok (but_for_moment said)
 restamped_says known [] said h = ap (λ (b : BusLine). Ok (but_for_moment b)) (ok_same h)
 restamped_says known (c ∷ l) said h = pick (c == 40) refl
   where
@@ -330,7 +331,7 @@ no_return text digits = pick (return_parts text)
 pub decimal_digits : (count : ℕ) → count < 2 ^ 64 → list_all is_digit (decimal count) ≡ true
 decimal_digits count small = digits_decimal (numerals_by_fold IsDigits tells _ folds) count small
 
-pub tick_says : (known : List ℕ) (count : ℕ) → 1 ≤ count → count ≤ 60000 → bus_line known (tick_line count) ≡ Ok (Ticks count)
+pub tick_says : (known : List KnownId) (count : ℕ) → 1 ≤ count → count ≤ 60000 → bus_line known (tick_line count) ≡ Ok (Ticks count)
 tick_says known count some few =
     let small : count < 2 ^ 64 = omega arith in
     let model = numerals_by_fold IsDigits tells _ folds in

@@ -1,4 +1,5 @@
 -- How a call of a live run goes: what is heard, with the time before it, recorded and taken.
+use Rattle.diag_can.specs.declared.frame.KnownId.{KnownId}
 use Rattle.std.proofs.Common.{◌≡◌, ◌⊎◌, ℕ, ◌+◌, ◌-◌, ◌<◌, ◌≤◌, ◌^◌, min, max, List, [], ◌∷◌, ◌++◌, length, map, take, drop, None, Some, inl, inr, Ok, Err, refl, sym, ap, subst, ◌∙◌, append_assoc, length-append, suc, zero, arith}
 use Rattle.std.proofs.lemmas.List.{append-nil, length-map, length-take, take-append-drop, take-map}
 use Rattle.std.proofs.lemmas.List.Concat.{flat_map-cons}
@@ -40,7 +41,7 @@ type_of {T} x = T
 -- ---- what is fresh
 
 -- the text is that of ticks and of lines that were heard behind them
-pub record Fresh (known : List ℕ) (ticks : ℕ) (text : List ℕ) (lines : List (List ℕ)) : Type 0 where
+pub record Fresh (known : List KnownId) (ticks : ℕ) (text : List ℕ) (lines : List (List ℕ)) : Type 0 where
   pub time : List Taken
   pub count : ticks ≡ length time
   pub silent : AreTicks time
@@ -48,7 +49,7 @@ pub record Fresh (known : List ℕ) (ticks : ℕ) (text : List ℕ) (lines : Lis
   pub is : text ≡ record_text (capture_of (time ++ map Heard lines))
 
 -- so behind what was heard these lines are fresh, whatever follows
-pub record Brings (known text : List ℕ) (ticks : ℕ) (seen piece : List ℕ) : Type 0 where
+pub record Brings (known : List KnownId) (text : List ℕ) (ticks : ℕ) (seen piece : List ℕ) : Type 0 where
   pub lines : List (List ℕ)
   pub fresh : Fresh known ticks text lines
   pub front : (rest : List ℕ) → AreFront (ended_lines seen ++ lines) (bus_lines ((seen ++ piece) ++ rest))
@@ -56,7 +57,7 @@ pub record Brings (known text : List ℕ) (ticks : ℕ) (seen piece : List ℕ) 
 pub text_join : (a b : List Taken) → record_text (capture_of (a ++ b)) ≡ record_text (capture_of a) ++ record_text (capture_of b)
 text_join a b = ap record_text (capture_of-append a b) ∙ record_text-append (capture_of a) (capture_of b)
 
-abbrev pub fresh_lines : (known : List ℕ) (span : ℕ) (ticks : ℕ) (before text more : List ℕ) (lines : List (List ℕ)) → before ≡ record_text (capture_of (passed span))
+abbrev pub fresh_lines : (known : List KnownId) (span : ℕ) (ticks : ℕ) (before text more : List ℕ) (lines : List (List ℕ)) → before ≡ record_text (capture_of (passed span))
     → ticks ≡ length (passed span) → text ≡ before ++ more
     → AreGood known (map Heard lines) → more ≡ record_text (capture_of (map Heard lines)) → Fresh known ticks text lines
 fresh_lines known span ticks before text more lines was count is good said = record {
@@ -68,10 +69,10 @@ fresh_lines known span ticks before text more lines was count is good said = rec
       ∙ (ap (λ (t : List ℕ). record_text (capture_of (passed span)) ++ t) said ∙ sym (text_join (passed span) (map Heard lines))));
 }
 
-pub nothing_fresh : (known : List ℕ) → Fresh known 0 [] []
+pub nothing_fresh : (known : List KnownId) → Fresh known 0 [] []
 nothing_fresh known = record { time = []; count = refl; silent = tt; good = tt; is = refl }
 
-pub brings_nothing : (known seen piece : List ℕ) → Brings known [] 0 seen piece
+pub brings_nothing : (known : List KnownId) (seen piece : List ℕ) → Brings known [] 0 seen piece
 brings_nothing known seen piece = record {
   lines = [];
   fresh = nothing_fresh known;
@@ -392,7 +393,7 @@ module _ (old new : Serving) (text sent noted : List ℕ) (ticks : ℕ) (seen wr
 
 -- ---- a call
 
-module _ (known : List ℕ) (h : Hearing) (span ticks : ℕ) (text text' piece : List ℕ) (was : text ≡ record_text (capture_of (passed span)))
+module _ (known : List KnownId) (h : Hearing) (span ticks : ℕ) (text text' piece : List ℕ) (was : text ≡ record_text (capture_of (passed span)))
     (count : ticks ≡ length (passed span)) where
   pub brings_ended : (new : Hearing) → Grew text text' (HeardLines known h new piece) → (seen : List ℕ) → HasHeard h seen → Brings known text' ticks seen piece
   brings_ended new grew seen f =

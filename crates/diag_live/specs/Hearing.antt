@@ -1,4 +1,5 @@
 -- What is kept of the lines that are heard, and how a piece of them goes.
+use Rattle.diag_can.specs.declared.frame.KnownId.{KnownId}
 use Rattle.std.specs.Prelude.{◌≡◌, ◌<◌, ℕ, ◌+◌, ◌^◌, List, [], ◌∷◌, ◌++◌, length, map, Result, Err}
 use Rattle.diag_can.specs.BusLine.{begun_line, bus_line, bus_lines, ended_lines}
 use Rattle.diag_can.specs.declared.fault.LineFault.{LineFault}
@@ -15,7 +16,7 @@ pub record HasHeard (hearing : Hearing) (seen : List ℕ) : Type 0 where
   pub count : hearing.lines ≡ length (ended_lines seen)
 
 -- these are the identifiers of 29 bits that are read
-module _ (known : List ℕ) where
+module _ (known : List KnownId) where
   -- these lines more were ended, none of which is at fault, and the capture grew by them
   pub record Ends (new : Hearing) (seen bytes more : List ℕ) : Type 0 where
     pub lines : List (List ℕ)
@@ -51,7 +52,7 @@ module _ (known : List ℕ) where
 
 -- A line that is seen to be at fault isn't taken, and that is told by its number, whatever memory there is: one that came as one
 -- piece, or is longer than a line may be. (Lines are counted up to 2^64 - 1.)
-abbrev pub SeesBad : {X : Type 0} → List ℕ → Hearing → List ℕ → Result X HearFault → Type 0
+abbrev pub SeesBad : {X : Type 0} → List KnownId → Hearing → List ℕ → Result X HearFault → Type 0
 SeesBad known old bytes result = old.lines + 1 < 2 ^ 64
     → ((fault : LineFault) → old.kept.items ≡ [] → bus_line known bytes ≡ Err fault → result ≡ Err (Line (old.lines + 1) fault))
     × (4096 < length old.kept.items + length bytes → result ≡ Err (Line (old.lines + 1) BadLine))

@@ -1,4 +1,5 @@
 -- A live run's capture: the lines that were heard, with one and the same stamp, and between them the ticks of the clock.
+use Rattle.diag_can.specs.declared.frame.KnownId.{KnownId}
 use Rattle.std.specs.Prelude.{◌≡◌, ◌≤◌, ℕ, ◌/◌, ◌%◌, ◌==◌, Bool, replicate, codes, decimal, if◌then◌else◌, All, List, [], ◌∷◌, ◌++◌, map, Option, Some, None, Ok}
 use Rattle.std.specs.List.{after_first, filter_map, flat_map}
 use Rattle.diag_can.specs.BusLine.{HasNoFeed, bus_line, bus_lines}
@@ -32,9 +33,9 @@ but_for_moment (Stamped moment frame) = Stamped 0 frame
 -- Whichever identifiers are read: a line that says something says the same with the null stamp, but for its moment, which is 0; and a line of ticks says
 -- that they pass. Neither has a line feed that wasn't there.
 pub record RestampLaw : Type 0 where
-  pub says : (known line : List ℕ) (said : BusLine) → bus_line known line ≡ Ok said
+  pub says : (known : List KnownId) (line : List ℕ) (said : BusLine) → bus_line known line ≡ Ok said
       → bus_line known (restamped line) ≡ Ok (but_for_moment said)
-  pub ticks : (known : List ℕ) (count : ℕ) → 1 ≤ count → count ≤ 60000
+  pub ticks : (known : List KnownId) (count : ℕ) → 1 ≤ count → count ≤ 60000
       → bus_line known (tick_line count) ≡ Ok (Ticks count)
 
 -- ---- what was taken
@@ -61,7 +62,7 @@ abbrev pub lines_of : List Taken → List (List ℕ)
 lines_of taken = filter_map heard_line taken
 
 -- these are the identifiers of 29 bits that are read
-module _ (known : List ℕ) where
+module _ (known : List KnownId) where
   -- a line that was heard is one line and says something; of the clock's ticks there are at least 1 and at most 60000
   abbrev pub IsGood : Taken → Type 0
   IsGood (Heard bytes) = HasNoFeed bytes × ((said : BusLine) × (bus_line known bytes ≡ Ok said))

@@ -5,7 +5,7 @@ ghost use Rattle.diag_can.specs.BusLine.{HasNoFeed};
 ghost use Rattle.diag_port.specs.Port.{Grew};
 
 use crate::restamp::add_restamped;
-use diag_can::{CanId, LONGEST_LINE, LineFault, read_bus_line};
+use diag_can::{KnownId, LONGEST_LINE, LineFault, read_bus_line};
 use memchr::memchr;
 use std::alloc::{AllocError, Global};
 
@@ -62,7 +62,7 @@ impl Hearing {
     /// Of the identifiers of 29 bits these are read.
     pub(crate) fn take_piece(
         &mut self,
-        known: &[CanId],
+        known: &[KnownId],
         piece: &[u8],
         text: &mut Vec<u8>,
     ) -> Result<(), HearFault>
@@ -88,7 +88,7 @@ impl Hearing {
     /// Takes the line that these bytes and an LF end, and adds it to the capture.
     fn take_line(
         &mut self,
-        known: &[CanId],
+        known: &[KnownId],
         bytes: &[u8],
         text: &mut Vec<u8>,
     ) -> Result<(), HearFault>
@@ -110,7 +110,7 @@ impl Hearing {
     /// Takes a line that came as one piece. Whether it is at fault is looked at before memory is asked for.
     fn take_whole(
         &mut self,
-        known: &[CanId],
+        known: &[KnownId],
         bytes: &[u8],
         text: &mut Vec<u8>,
     ) -> Result<(), HearFault>
@@ -137,7 +137,7 @@ impl Hearing {
     /// Takes the line that is begun, which these bytes and an LF end.
     fn take_kept(
         &mut self,
-        known: &[CanId],
+        known: &[KnownId],
         bytes: &[u8],
         text: &mut Vec<u8>,
     ) -> Result<(), HearFault>

@@ -14,11 +14,18 @@ pub struct Side<'a> {
     pub functional: u32,
     /// Whether they have 29 bits.
     pub extended: bool,
+    /// Whether it talks by CAN FD; its classic frames are read, too.
+    pub fd: bool,
 }
 
 impl Side<'_> {
     fn has(&self, number: u32) -> bool {
         number == self.request || number == self.response || number == self.functional
+    }
+
+    /// Whether a frame with one of its numbers is read.
+    fn reads(&self, line: &Line<'_>) -> bool {
+        self.extended == line.is_extended && (self.fd || !line.is_flexible)
     }
 
     /// How many hex digits its identifiers have.
@@ -39,12 +46,22 @@ struct Line<'a> {
 }
 
 impl Line<'_> {
-    /// Whether the frame may be the first of a message (ISO 15765-2:2016, 9.6): a SingleFrame, or a FirstFrame, which has
-    /// eight bytes.
-    fn begins(&self) -> bool {
+    /// The digits of its bytes, and what stands behind them; of CAN FD another `#` and the flags stand before them.
+    fn digits(&self) -> &[u8] {
         match self.rest {
+            [b'#', _, digits @ ..] => digits,
+            rest => rest,
+        }
+    }
+
+    /// Whether the frame may be the first of a message (ISO 15765-2:2016, 9.6): a SingleFrame, of more than eight bytes with
+    /// its length behind 00, or a FirstFrame, which has eight bytes or more.
+    fn begins(&self) -> bool {
+        let digits = self.digits();
+        match digits {
             [b'0', b'1'..=b'7', ..] => true,
-            [b'1', ..] => self.rest.len() >= 16,
+            [b'0', b'0', ..] => self.is_flexible && digits.len() > 16,
+            [b'1', ..] => digits.len() >= 16,
             _ => false,
         }
     }
@@ -216,7 +233,7 @@ impl<'a> Recording<'a> {
         for (side, frames) in self.sides.iter_mut() {
             if side.has(line.id) {
                 is_named = true;
-                if side.extended == line.is_extended && !line.is_flexible {
+                if side.reads(line) {
                     is_heard = true;
                     frames.count(side, line);
                 }

@@ -1,2 +1,4 @@
 pub mod Lists
+pub mod Lengths
 pub mod CutFrames
+pub mod Classic

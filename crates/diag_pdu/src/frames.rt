@@ -1,10 +1,15 @@
-//! Writing of frames (ISO 15765-2:2016, 9.6), before padding, and the frames of a message (9.2 and 9.3).
+//! Writing of frames of up to 8 bytes (ISO 15765-2:2016, 9.6), before padding, and the frames of a message where all have so
+//! many (9.2 and 9.3).
 
-ghost use Rattle.std.specs.Prelude.{◌≡◌, ℕ, ◌≤◌, ◌<◌, ◌+◌, ◌↔◌, [], ◌∷◌, Some, IfSome, IsSome, length, slice_get};
+ghost use Rattle.std.specs.Prelude.{◌≡◌, ℕ, List, ◌≤◌, ◌<◌, ◌+◌, ◌↔◌, [], ◌∷◌, Some, IfSome, IsSome, length, slice_get};
 ghost use Rattle.diag_pdu.specs.Kind.{Single, First, Consecutive, FlowControl, kind};
-ghost use Rattle.diag_pdu.specs.Cut.{head_size, filled, single_bytes, first_bytes, consecutive_bytes, flow_bytes, part_of, cut, frames_of};
+ghost use Rattle.diag_pdu.specs.declared.length.DataLength.TheVariants.{Dl8};
+ghost use Rattle.diag_pdu.specs.Length.{single_most};
+ghost use Rattle.diag_pdu.specs.Cut.{head_size, padded, single_bytes, first_bytes, consecutive_bytes, flow_bytes, part_of, cut, frames_of};
 
-use crate::kind::{consecutive_count, head_size};
+use crate::framing::Framing;
+use crate::kind::{consecutive_count, head_size, single_most};
+use crate::length::DataLength;
 use crate::message::Message;
 use diag_can::FrameBytes;
 
@@ -26,9 +31,9 @@ pub fn single_frame(payload: &[u8]) -> FrameBytes
 #[tactic(auto, using(crate::proofs::CutFrames::first_read))]
 pub fn first_frame(len: u16, head: &[u8]) -> FrameBytes
     requires long { 8 ≤ len }
-    requires whole { length head.now ≡ head_size len }
+    requires whole { length head.now ≡ head_size Dl8 len }
     ensures bytes { result ≡ first_bytes len head.now }
-    ensures read { (max : ℕ) → len ≤ max → kind result max ≡ First len head.now }
+    ensures read { (max : ℕ) → len ≤ max → kind result max ≡ First len Dl8 head.now }
 {
     first_of(len, head)
 }
@@ -37,7 +42,7 @@ pub fn first_frame(len: u16, head: &[u8]) -> FrameBytes
 #[inline(always)]
 fn first_of(len: u16, head: &[u8]) -> FrameBytes
     requires long { 8 ≤ len }
-    requires whole { length head.now ≡ head_size len }
+    requires whole { length head.now ≡ head_size Dl8 len }
     ensures { result ≡ first_bytes len head.now }
 {
     let [high, low] = len.to_be_bytes();
@@ -78,19 +83,19 @@ pub fn flow_frame(flow_status: u8, block_size: u8, st_min: u8) -> FrameBytes
 #[inline(always)]
 pub fn padded(frame: FrameBytes, pad: Option<u8>) -> FrameBytes
     requires { length frame ≤ 8 }
-    ensures { result ≡ filled pad frame }
+    ensures { result ≡ padded pad frame }
 {
     match pad {
-        Some(byte) => filled_with(&frame, byte),
+        Some(byte) => padded_with(&frame, byte),
         None => frame,
     }
 }
 
 /// The frame padded to 8 bytes. (Not inlined, so that its bytes are read from memory as one word, and aren't taken apart.)
 #[inline(never)]
-fn filled_with(frame: &FrameBytes, byte: u8) -> FrameBytes
+fn padded_with(frame: &FrameBytes, byte: u8) -> FrameBytes
     requires { length frame.now ≤ 8 }
-    ensures { result ≡ filled (Some byte) frame.now }
+    ensures { result ≡ padded (Some byte) frame.now }
 {
     let mut all = frame.copy();
     all.fill(byte);
@@ -100,10 +105,10 @@ fn filled_with(frame: &FrameBytes, byte: u8) -> FrameBytes
 /// The part of the message that the `i`-th Consecutive carries, from 1.
 fn part(message: &[u8], i: usize) -> &[u8]
     requires { (1 ≤ i) × (length message.now ≤ 65535) × (i ≤ 65535) }
-    ensures part { result.now ≡ part_of message.now i }
+    ensures part { result.now ≡ part_of Dl8 message.now i }
     ensures few { length result.now ≤ 7 }
 {
-    let start = usize::from(head_size(message.len() as u16)) + 7 * (i - 1);
+    let start = usize::from(head_size(DataLength::Dl8, message.len() as u16)) + 7 * (i - 1);
     let rest = &message[start.min(message.len())..];
     &rest[..rest.len().min(7)]
 }
@@ -113,10 +118,12 @@ fn part(message: &[u8], i: usize) -> &[u8]
 fn nth_consecutive(message: &[u8], i: u16, pad: Option<u8>) -> FrameBytes
     requires some { 1 ≤ i }
     requires fits { length message.now ≤ 65535 }
-    ensures { result ≡ filled pad (consecutive_bytes i (part_of message.now i)) }
+    ensures { result ≡ padded pad (consecutive_bytes i (part_of Dl8 message.now i)) }
 {
     let sequence_number = (i % 16) as u8;
-    let before = usize::from(head_size(message.len() as u16)) + 7 * usize::from(i - 1) - 1;
+    let before = usize::from(head_size(DataLength::Dl8, message.len() as u16))
+        + 7 * usize::from(i - 1)
+        - 1;
     if let Some(eight) = message[before.min(message.len())..].first_chunk::<8>() {
         let mut whole = *eight;
         whole[0] = 0x20 + sequence_number;
@@ -129,77 +136,100 @@ fn nth_consecutive(message: &[u8], i: u16, pad: Option<u8>) -> FrameBytes
     }
 }
 
-/// The `k`-th frame of the message, from 0, padded to 8 bytes with the pad byte, if any. The message has one.
-#[tactic(auto, using(crate::proofs::CutFrames::cut_single_at, crate::proofs::CutFrames::cut_first_at, crate::proofs::CutFrames::cut_part_at))]
-pub fn frame_at(message: &Message, k: u16, pad: Option<u8>) -> FrameBytes
-    requires { k < frames_of message.now }
-    ensures { slice_get (cut message.now pad) k ≡ Some result }
+/// The `k`-th frame of the message, from 0, where frames have 8 bytes. The message has one.
+#[tactic(auto, using(crate::proofs::CutFrames::short_single_at, crate::proofs::CutFrames::short_first_at, crate::proofs::CutFrames::short_part_at))]
+pub fn frame_at(message: &Message, k: u16, framing: &Framing) -> FrameBytes
+    requires classic { framing.now.tx_dl ≡ Dl8 }
+    requires inside { k < frames_of framing.now.tx_dl message.now }
+    ensures { slice_get (cut framing.now message.now) k ≡ Some result }
 {
     let bytes = message.bytes();
     let len = bytes.len() as u16;
     if len <= 7 {
-        padded(single_frame(bytes), pad)
+        padded(single_frame(bytes), framing.pad)
     } else if k == 0 {
-        let head = &bytes[..usize::from(head_size(len))];
-        padded(first_frame(len, head), pad)
+        let head = &bytes[..usize::from(head_size(DataLength::Dl8, len))];
+        padded(first_frame(len, head), framing.pad)
     } else {
-        nth_consecutive(bytes, k, pad)
+        nth_consecutive(bytes, k, framing.pad)
     }
 }
 
-/// The frame of a message that has a single one, padded as `frame_at` does; None where it has more. Bytes that stand in
-/// place are moved together.
-#[tactic(auto, unfolding(crate::specs::Cut::cut))]
+/// The frame of a message of up to 7 bytes, of whatever length others are; None of a longer one. Bytes that stand in place
+/// are moved together.
+#[tactic(auto, using(crate::proofs::CutFrames::short_lone))]
 #[inline(always)]
-pub fn lone_frame(message: &Message, pad: Option<u8>) -> Option<FrameBytes>
-    ensures some { IfSome result (λ frame. cut message.now pad ≡ frame ∷ []) }
+pub fn lone_frame(message: &Message, framing: &Framing) -> Option<FrameBytes>
+    ensures some { IfSome result (λ frame. cut framing.now message.now ≡ frame ∷ []) }
     ensures found { IsSome result ↔ (length message.now ≤ 7) }
 {
     match message.in_frame() {
-        Some(bytes) if bytes.len() <= 7 => Some(padded(bytes.behind(bytes.len() as u8), pad)),
+        Some(bytes) if bytes.len() <= 7 => {
+            Some(padded(bytes.behind(bytes.len() as u8), framing.pad))
+        }
         _ if message.bytes().len() > 7 => None,
-        _ => lone_long(message, pad),
+        _ => lone_elsewhere(message, framing),
     }
 }
 
 /// The same, wherever the bytes stand.
-#[tactic(auto, unfolding(crate::specs::Cut::cut))]
+#[tactic(auto, using(crate::proofs::CutFrames::short_lone))]
 #[inline(never)]
-fn lone_long(message: &Message, pad: Option<u8>) -> Option<FrameBytes>
-    ensures some { IfSome result (λ frame. cut message.now pad ≡ frame ∷ []) }
+fn lone_elsewhere(message: &Message, framing: &Framing) -> Option<FrameBytes>
+    ensures some { IfSome result (λ frame. cut framing.now message.now ≡ frame ∷ []) }
     ensures found { IsSome result ↔ (length message.now ≤ 7) }
 {
     let bytes = message.bytes();
     if bytes.len() <= 7 {
-        Some(padded(single_frame(bytes), pad))
+        Some(padded(single_frame(bytes), framing.pad))
     } else {
         None
     }
 }
 
-/// The `k`-th frame of the message, from 0, padded to 8 bytes with the pad byte, if any; None past the last. The first
-/// is a SingleFrame or a FirstFrame, the others carry 7 bytes each and are numbered 1, 2, .., 15, 0, 1, ..
+/// The `k`-th frame of the message, from 0, where frames have 8 bytes; None past the last. The first is a SingleFrame or a
+/// FirstFrame, the others carry 7 bytes each and are numbered 1, 2, .., 15, 0, 1, ..
 #[tactic(auto, using(crate::proofs::CutFrames::frame_past))]
-pub fn frame_of(message: &Message, k: usize, pad: Option<u8>) -> Option<FrameBytes>
-    ensures { result ≡ slice_get (cut message.now pad) k }
+pub fn frame_of(message: &Message, k: usize, framing: &Framing) -> Option<FrameBytes>
+    requires { framing.now.tx_dl ≡ Dl8 }
+    ensures { result ≡ slice_get (cut framing.now message.now) k }
 {
-    if k < usize::from(frames_of(message)) {
-        Some(frame_at(message, k as u16, pad))
+    if k < usize::from(frames_of(framing.tx_dl, message)) {
+        Some(frame_at(message, k as u16, framing))
     } else {
         None
     }
 }
 
 /// How many frames a message has.
-pub fn frames_of(message: &Message) -> u16
-    ensures count { result ≡ frames_of message.now }
+#[tactic(auto, using(crate::proofs::CutFrames::few_frames))]
+pub fn frames_of(tx_dl: DataLength, message: &Message) -> u16
+    ensures count { result ≡ frames_of tx_dl message.now }
     ensures some { 1 ≤ result }
     ensures few { result < 10000 }
 {
-    let len = message.bytes().len();
-    if len <= 7 {
+    let len = message.bytes().len() as u16;
+    match tx_dl {
+        DataLength::Dl8 => {
+            if len <= 7 {
+                1
+            } else {
+                consecutive_count(DataLength::Dl8, len) + 1
+            }
+        }
+        longer => long_frames_of(longer, len),
+    }
+}
+
+/// The same of a message of that length, whatever that of its frames.
+#[tactic(auto, using(crate::proofs::Lengths::few_consecutives))]
+#[inline(never)]
+fn long_frames_of(tx_dl: DataLength, len: u16) -> u16
+    ensures { (P : List ℕ) → length P ≡ len → result ≡ frames_of tx_dl P }
+{
+    if len <= single_most(tx_dl) {
         1
     } else {
-        consecutive_count(len as u16) + 1
+        consecutive_count(tx_dl, len) + 1
     }
 }

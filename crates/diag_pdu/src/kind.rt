@@ -1,20 +1,23 @@
 //! The kinds of frames (ISO 15765-2:2016, 9.6), and the lengths that they imply.
 
-ghost use Rattle.std.specs.Prelude.{◌≡◌, ℕ, ◌<◌, ◌≤◌, ◌+◌, length, take, drop, slice_index, ◌*◌};
-ghost use Rattle.diag_pdu.specs.Kind.{says, kind, single_kind, first_kind, escape_kind, flow_kind, escape_length, IsRead};
-ghost use Rattle.diag_pdu.specs.Cut.{head_size, consecutive_count};
+ghost use Rattle.std.specs.Prelude.{◌≡◌, ℕ, ◌<◌, ◌≤◌, ◌+◌, Some, length, take, drop, slice_index, ◌*◌};
+ghost use Rattle.diag_pdu.specs.Kind.{says, kind, single_kind, long_single_kind, first_kind, escape_kind, flow_kind, escape_length, IsRead, IsShort};
+ghost use Rattle.diag_pdu.specs.Length.{in_bytes, length_of, single_most};
+ghost use Rattle.diag_pdu.specs.Cut.{head_size, consecutive_count, gone_with};
 
+use crate::length::DataLength;
 use crate::pci::Pci;
 
 impl Pci<'_> {
-    /// What a frame of these bytes, at most eight, is, where messages of up to `max` bytes are taken. The high half
+    /// What a frame of these bytes, at most 64, is, where messages of up to `max` bytes are taken. The high half
     /// of the first byte tells the kind.
     #[tactic(auto, unfolding(crate::specs::Kind::kind))]
     #[inline(always)]
     pub fn read(bytes: &[u8], max: u16) -> Pci<'_>
-        requires { length bytes.now ≤ 8 }
+        requires { length bytes.now ≤ 64 }
         ensures kind { says result ≡ kind bytes.now max }
         ensures read { IsRead max (kind bytes.now max) }
+        ensures short { length bytes.now ≤ 8 → IsShort (kind bytes.now max) }
     {
         let Some((control, rest)) = bytes.split_first() else {
             return Pci::Ignored;
@@ -36,10 +39,14 @@ impl Pci<'_> {
 #[inline(always)]
 fn single(count: u8, bytes: &[u8]) -> Pci<'_>
     requires some { 1 ≤ length bytes.now }
-    requires few { length bytes.now ≤ 8 }
+    requires few { length bytes.now ≤ 64 }
     ensures kind { says result ≡ single_kind count bytes.now }
     ensures read { (max : ℕ) → IsRead max (single_kind count bytes.now) }
+    ensures short { length bytes.now ≤ 8 → IsShort (single_kind count bytes.now) }
 {
+    if bytes.len() > 8 {
+        return long_single(count, bytes);
+    }
     let count = usize::from(count);
     if count >= 1 && count <= 7 && count < bytes.len() {
         Pci::Single(&bytes[1..1 + count])
@@ -48,39 +55,56 @@ fn single(count: u8, bytes: &[u8]) -> Pci<'_>
     }
 }
 
+/// A SingleFrame of more than 8 bytes.
+#[inline(never)]
+fn long_single(count: u8, bytes: &[u8]) -> Pci<'_>
+    requires long { 8 < length bytes.now }
+    requires few { length bytes.now ≤ 64 }
+    ensures kind { says result ≡ single_kind count bytes.now }
+    ensures read { (max : ℕ) → IsRead max (single_kind count bytes.now) }
+{
+    let len = usize::from(bytes[1]);
+    if count == 0 && len >= 8 && len + 2 <= bytes.len() {
+        Pci::Single(&bytes[2..2 + len])
+    } else {
+        Pci::Ignored
+    }
+}
+
 #[inline(always)]
 fn first(high: u8, bytes: &[u8], max: u16) -> Pci<'_>
-    requires few { length bytes.now ≤ 8 }
+    requires few { length bytes.now ≤ 64 }
     requires nibble { high < 16 }
     requires some { 1 ≤ length bytes.now }
     ensures kind { says result
-        ≡ first_kind (high * 256 + slice_index bytes.now 1) bytes.now max }
+        ≡ first_kind (high * 256 + slice_index bytes.now 1) (length_of (length bytes.now)) bytes.now max }
     ensures read { IsRead max
-        (first_kind (high * 256 + slice_index bytes.now 1) bytes.now max) }
+        (first_kind (high * 256 + slice_index bytes.now 1) (length_of (length bytes.now)) bytes.now max) }
 {
-    if bytes.len() < 8 {
+    let Some(rx_dl) = DataLength::of(bytes.len()) else {
         return Pci::Ignored;
-    }
+    };
     let len = u16::from(high) * 256 + u16::from(bytes[1]);
     if len == 0 {
-        escape(bytes, max)
-    } else if len < 8 {
+        escape(rx_dl, bytes, max)
+    } else if len <= single_most(rx_dl) {
         Pci::Ignored
     } else if len > max {
         Pci::Overflow
     } else {
         Pci::First {
             len,
-            head: &bytes[2..8],
+            rx_dl,
+            head: &bytes[2..],
         }
     }
 }
 
 #[inline(never)]
-fn escape(bytes: &[u8], max: u16) -> Pci<'_>
-    requires { length bytes.now ≡ 8 }
-    ensures kind { says result ≡ escape_kind (escape_length bytes.now) bytes.now max }
-    ensures read { IsRead max (escape_kind (escape_length bytes.now) bytes.now max) }
+fn escape(rx_dl: DataLength, bytes: &[u8], max: u16) -> Pci<'_>
+    requires { length_of (length bytes.now) ≡ Some rx_dl }
+    ensures kind { says result ≡ escape_kind (escape_length bytes.now) rx_dl bytes.now max }
+    ensures read { IsRead max (escape_kind (escape_length bytes.now) rx_dl bytes.now max) }
 {
     let len = u32::from_be_bytes([bytes[2], bytes[3], bytes[4], bytes[5]]);
     if len <= 4095 {
@@ -90,7 +114,8 @@ fn escape(bytes: &[u8], max: u16) -> Pci<'_>
     } else {
         Pci::First {
             len: len as u16,
-            head: &bytes[6..8],
+            rx_dl,
+            head: &bytes[6..],
         }
     }
 }
@@ -110,16 +135,44 @@ fn flow(flow_status: u8, bytes: &[u8]) -> Pci<'_>
     }
 }
 
-/// How many bytes of a message stand in its First.
-pub fn head_size(len: u16) -> u16
-    ensures { result ≡ head_size len }
+/// The longest message of a SingleFrame of that length.
+#[inline(always)]
+pub fn single_most(d: DataLength) -> u16
+    ensures { result ≡ single_most d }
 {
-    if len <= 4095 { 6 } else { 2 }
+    match d {
+        DataLength::Dl8 => 7,
+        longer => longer.in_bytes() - 2,
+    }
 }
 
-/// How many Consecutives a message has.
-pub fn consecutive_count(len: u16) -> u16
-    ensures { result ≡ consecutive_count len }
+/// How many bytes of a message stand in its FirstFrame of that length.
+#[inline(always)]
+pub fn head_size(d: DataLength, len: u16) -> u16
+    ensures { result ≡ head_size d len }
 {
-    ((u32::from(len.saturating_sub(head_size(len))) + 6) / 7) as u16
+    d.in_bytes() - if len <= 4095 { 2 } else { 6 }
+}
+
+/// How many bytes go with the FirstFrame and so many ConsecutiveFrames of that length.
+#[inline(always)]
+pub fn gone_with(d: DataLength, len: u16, count: u16) -> usize
+    ensures { result ≡ gone_with d len count }
+{
+    usize::from(head_size(d, len)) + (usize::from(d.in_bytes()) - 1) * usize::from(count)
+}
+
+/// How many ConsecutiveFrames of that length a message has.
+#[inline(always)]
+pub fn consecutive_count(d: DataLength, len: u16) -> u16
+    ensures { result ≡ consecutive_count d len }
+{
+    let behind = u32::from(len.saturating_sub(head_size(d, len)));
+    match d {
+        DataLength::Dl8 => ((behind + 6) / 7) as u16,
+        longer => {
+            let part = u32::from(longer.in_bytes()) - 1;
+            ((behind + part - 1) / part) as u16
+        }
+    }
 }

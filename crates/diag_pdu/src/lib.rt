@@ -2,7 +2,12 @@
 #![tactic(auto)]
 
 mod frames;
+mod framing;
 mod kind;
+mod laws;
+mod length;
+mod long_frames;
+mod making;
 mod message;
 mod pci;
 mod setup;
@@ -12,7 +17,12 @@ pub use frames::{
     consecutive_frame, first_frame, flow_frame, frame_at, frame_of, frames_of, lone_frame, padded,
     single_frame,
 };
-pub use kind::{consecutive_count, head_size};
+pub use framing::Framing;
+pub use kind::{consecutive_count, gone_with, head_size, single_most};
+pub use laws::classic_law;
+pub use length::DataLength;
+pub use long_frames::long_frame_at;
+pub use making::MakeFrame;
 pub use message::{Message, MessageFault};
 pub use pci::Pci;
 pub use setup::LinkSetup;

@@ -1,6 +1,6 @@
 //! Messages of the transport: requests and replies of a diagnostic service.
 
-ghost use Rattle.std.specs.Prelude.{◌≡◌, ◌<◌, ◌≤◌, ◌⊎◌, ◌↔◌, ◌-◌, ◌++◌, length, take, OnOk, IfOk, IsOk, IfSome, IsSome, Some, Err};
+ghost use Rattle.std.specs.Prelude.{◌≡◌, ◌<◌, ◌≤◌, ◌⊎◌, ◌↔◌, ◌-◌, ◌++◌, length, take, OnOk, OnErr, IfOk, IsOk, IfSome, IsSome, Some, Err};
 ghost use Rattle.diag_pdu.specs.Fault.{message_fault_text};
 ghost use Rattle.diag_pdu.specs.Message.{IsInRange};
 
@@ -174,6 +174,42 @@ impl Message {
         }
     }
 
+    /// Becomes the message of these bytes, in the memory that it has where that is enough. Up to eight bytes take no memory.
+    ///
+    /// # Errors
+    /// `AllocError` where memory is refused; the message stays as it is then.
+    #[inline(always)]
+    pub fn set(&mut self, alloc: Global, bytes: &[u8]) -> Result<(), AllocError>
+        requires some { 1 ≤ length bytes.now }
+        requires fits { length bytes.now ≤ 65535 }
+        ensures value { OnOk result (self.new ≡ bytes.now) }
+        ensures same { OnErr result (self.new ≡ self.old) }
+        ensures in_place { length bytes.now ≤ 8 → IsOk result }
+    {
+        if bytes.len() <= IN_PLACE {
+            self.set_in_place(FrameBytes::from_slice(bytes));
+            return Ok(());
+        }
+        self.set_long(alloc, bytes)
+    }
+
+    /// The same of more than eight bytes.
+    #[inline(never)]
+    fn set_long(&mut self, alloc: Global, bytes: &[u8]) -> Result<(), AllocError>
+        requires some { 1 ≤ length bytes.now }
+        requires fits { length bytes.now ≤ 65535 }
+        ensures value { OnOk result (self.new ≡ bytes.now) }
+        ensures same { OnErr result (self.new ≡ self.old) }
+    {
+        match &mut self.bytes {
+            Bytes::Short(_) => {
+                self.bytes = Bytes::Long(Vec::from_slice(alloc, bytes)?);
+                Ok(())
+            }
+            Bytes::Long(kept) => put_over(kept, bytes),
+        }
+    }
+
     /// Puts these bytes in place of the last ones.
     pub fn set_end(&mut self, part: &[u8])
         requires { length part.now ≤ length self.old }
@@ -221,6 +257,18 @@ impl Message {
             Bytes::Long(bytes) => bytes.as_slice(),
         }
     }
+}
+
+/// Puts these bytes in place of all; where memory is refused they stay.
+fn put_over(kept: &mut Vec<u8>, bytes: &[u8]) -> Result<(), AllocError>
+    ensures value { OnOk result (kept.new.items ≡ bytes.now) }
+    ensures same { OnErr result (kept.new.items ≡ kept.old.items) }
+{
+    kept.reserve_exact(bytes.len().saturating_sub(kept.len()))?;
+    kept.clear();
+    let taken = kept.extend_from_slice(bytes).is_ok();
+    prove!(taken);
+    Ok(())
 }
 
 /// Puts these bytes in place of the last ones.

@@ -2,6 +2,7 @@
 use Rattle.std.proofs.Common.{◌≡◌, ℕ, false, List, [], ◌∷◌, Some, refl}
 use Rattle.diag_can.specs.declared.frame.Event.{Event}
 use Rattle.diag_can.specs.declared.frame.Event.TheVariants.{Physical, Ticks}
+use Rattle.diag_pdu.specs.declared.length.DataLength.TheVariants.{Dl8}
 use Rattle.diag_pdu.specs.declared.setup.LinkSetup.{LinkSetup}
 use Rattle.diag_pdu.specs.Kind.{kind}
 use Rattle.diag_pdu.specs.Request.{request_of}
@@ -19,7 +20,7 @@ settings = record {
   block_size = 0;
   st_min = 0;
   max_request = 4095;
-  pad = Some 0xCC;
+  framing = record { tx_dl = Dl8; pad = Some 0xCC; fill = 0 };
   n_bs = 1000;
   n_cr = 1000;
 }

@@ -1,6 +1,8 @@
 pub mod Pendings
 pub mod LateLemmas
 pub mod Within
+pub mod Handing
+pub mod Rooms
 pub mod PortLemmas
 pub mod Releasing
 pub mod Standing

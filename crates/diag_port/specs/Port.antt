@@ -5,6 +5,7 @@ use Rattle.diag_can.specs.declared.frame.Event.{Event}
 use Rattle.diag_can.specs.declared.frame.Event.TheVariants.{Physical, Functional, Ticks}
 use Rattle.diag_pdu.specs.declared.setup.LinkSetup.{LinkSetup}
 use Rattle.diag_tp.specs.declared.sent.Sent.{Sent}
+use Rattle.diag_tp.specs.SentFrames.{SentList, HasRoom}
 use Rattle.diag_tp.specs.Moments.{history, last_moment, last_time}
 use Rattle.diag_tp.specs.Wire.{Placed, wire}
 use Rattle.diag_tp.specs.State.{LinkState}
@@ -64,6 +65,15 @@ pub record IsAtRest (port : Port) : Type 0 where
   pub none_due : NoneIsDue port.link.state.now port.held.messages
   pub rooms : length port.held.messages ≤ port.link.reply_room
 
+-- there is room for so many frames of a link
+abbrev pub HasRoomFor : LinkState → ℕ → SentList → Type 0
+HasRoomFor link n out = HasRoom link.setup.framing.tx_dl n out
+
+-- room for all frames that a link may still hand out, and for others, is still there for those that are left
+abbrev pub KeepsFrameRoom : LinkState → LinkState → SentList → SentList → Type 0
+KeepsFrameRoom old new out out' =
+    (others : ℕ) → HasRoomFor old (unsent old + others) out → HasRoomFor new (unsent new + others) out'
+
 -- the most frames that it may still hand out where nothing more comes in
 abbrev pub unsent_of : Port → ℕ
 unsent_of port = unsent port.link.state + held_frames port.held.messages
@@ -115,7 +125,8 @@ Passed old new count more =
     → HandedOut s new (E ++ Ticks count ∷ []) L (Q ++ more))
 
 -- room for the messages of one more reply, in what is held and in the link, and for the frames that they may make due
-pub record CanHold (port : Port) (len capacity : ℕ) : Type 0 where
+pub record CanHold (port : Port) (out : SentList) : Type 0 where
   pub held : most_pendings + 1 ≤ port.held.room
   pub link : length port.held.messages + (most_pendings + 1) ≤ port.link.reply_room
-  pub frames : len + unsent port.link.state + length port.held.messages + (most_pendings + 2) ≤ capacity
+  pub frames : HasRoomFor port.link.state
+      (unsent port.link.state + length port.held.messages + (most_pendings + 2)) out

@@ -8,6 +8,7 @@ use Rattle.diag_pdu.specs.declared.step.Step.{Step}
 use Rattle.diag_pdu.specs.declared.step.Step.TheVariants as step
 use Rattle.diag_tp.specs.declared.sent.Sent.{Sent}
 use Rattle.diag_tp.specs.declared.taken.Taken.{Taken}
+use Rattle.diag_tp.specs.SentFrames.{SentList}
 use Rattle.diag_tp.specs.Gives.{gives, steps}
 use Rattle.diag_tp.specs.Moments.{is_tick, last_time}
 use Rattle.diag_tp.specs.State.{LinkState}
@@ -19,7 +20,7 @@ use Rattle.diag_desk.specs.Timed.{Timed, entries_of}
 use Rattle.diag_port.specs.declared.pace.Pace.{Pace}
 use Rattle.diag_port.specs.declared.port.Port.{Port}
 use Rattle.diag_port.specs.Releasing.{drawn, lates}
-use Rattle.diag_port.specs.Port.{AreWithin, CanHold, Grew, IsAtRest, IsEarly, PortFor, PortState, time_after}
+use Rattle.diag_port.specs.Port.{AreWithin, CanHold, Grew, HasRoomFor, IsAtRest, IsEarly, PortFor, PortState, time_after}
 
 -- the entry of so many ticks, which have no reply
 abbrev pub entry_of_ticks : ℕ → ℕ → Entry
@@ -53,13 +54,13 @@ GivesStep link e = EachHistory link (λ s E A Q. IsSome (gives s E e))
 
 -- A frame was read at a port at rest, of which this is left, and there is room for it, for a reply, and for the frames that
 -- may fall due. The step that it gives is lent.
-pub record IsPrepared (port : Port) (e : Event) (taken : Taken) (len capacity : ℕ) : Type 0 where
+pub record IsPrepared (port : Port) (e : Event) (taken : Taken) (out : SentList) : Type 0 where
   pub rest : IsAtRest port
   pub is : IsTaken port.link.state e taken
   pub fits : FitsIn port.link taken
   pub reply_room : IsTrue (has_reply_room port.link)
-  pub room : len + unsent port.link.state + 2 ≤ capacity
-  pub holds : ¬ (port.held.messages ≡ []) → CanHold port len capacity
+  pub room : HasRoomFor port.link.state (unsent port.link.state + 2) out
+  pub holds : ¬ (port.held.messages ≡ []) → CanHold port out
   pub step : EachHistory port.link.state (λ s E A Q. asked_of (asked_in port.link taken) ≡ gives s E e)
 
 -- it stands for one event more, with its entry where it gives a step, and these frames were handed out

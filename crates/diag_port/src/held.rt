@@ -26,7 +26,7 @@ ghost use Rattle.diag_port.specs.Port.{IsEarly};
 
 use crate::pace::Pace;
 use diag_can::FrameBytes;
-use diag_pdu::{Message, frames_of};
+use diag_pdu::{DataLength, Message, frames_of};
 use std::alloc::{AllocError, Global};
 use std::collections::VecDeque;
 use std::marker::Model;
@@ -50,7 +50,7 @@ pub struct Later {
 #[derive(Drop)]
 pub struct Held {
     messages: VecDeque<Later>,
-    /// How many frames they have.
+    /// How many frames of 8 bytes they have: longer frames are no more.
     frames: u64,
 }
 
@@ -106,7 +106,7 @@ impl Held {
         ensures added { self.new.messages ≡ self.old.messages ++ record { due = due; message = message } ∷ [] }
         ensures room { self.old.room ≤ self.new.room + 1 }
     {
-        let frames = frames_of(&message);
+        let frames = frames_of(DataLength::Dl8, &message);
         self.messages.push_back_reserved(Later { due, message });
         self.frames += u64::from(frames);
     }
@@ -168,7 +168,7 @@ impl Held {
         ensures room { self.old.room ≤ self.new.room }
     {
         let later = self.messages.pop_front()?;
-        self.frames -= u64::from(frames_of(&later.message));
+        self.frames -= u64::from(frames_of(DataLength::Dl8, &later.message));
         Some(later)
     }
 
@@ -211,7 +211,7 @@ impl Held {
         self.messages.len()
     }
 
-    /// How many frames they have.
+    /// How many frames of 8 bytes they have.
     #[inline(always)]
     pub fn frames(&self) -> u64
         ensures count { result ≡ held_frames self.now.messages }

@@ -15,11 +15,10 @@ ghost use Rattle.std.specs.Prelude.{
   IsTrue,
   None,
   min,
-  vec_len,
-  vec_capacity,
 };
 ghost use Rattle.diag_can.specs.declared.frame.Event.{Event as AnEvent};
 ghost use Rattle.diag_pdu.specs.declared.setup.LinkSetup.{LinkSetup as ALinkSetup};
+ghost use Rattle.diag_pdu.specs.Length.{in_bytes};
 ghost use Rattle.diag_tp.specs.declared.sent.Sent.{Sent as ASent};
 ghost use Rattle.diag_tp.specs.Moments.{last_moment, last_time};
 ghost use Rattle.diag_tp.specs.Wire.{Placed};
@@ -27,13 +26,13 @@ ghost use Rattle.diag_tp.specs.Taken.{IsTaken, FitsIn};
 ghost use Rattle.diag_tp.specs.Placing.{placed_at};
 ghost use Rattle.diag_tp.specs.Link.{StandsFor, has_reply_room, last_tick, pending, quiet, unsent};
 ghost use Rattle.diag_port.specs.Late.{released, still};
-ghost use Rattle.diag_port.specs.Port.{AreWithin, Grew, IsAtRest, Passed, CanHold, LinkHandedOut, Received, SentDue, port_of, port_quiet, unsent_of};
+ghost use Rattle.diag_port.specs.Port.{AreWithin, Grew, HasRoomFor, IsAtRest, KeepsFrameRoom, Passed, CanHold, LinkHandedOut, Received, SentDue, port_of, port_quiet, unsent_of};
 ghost use Rattle.diag_port.specs.Held.{until_due};
 
 use crate::port::Port;
-use diag_can::{Event, TickCount};
-use diag_pdu::Message;
-use diag_tp::{Link, Sent, Taken, moments_law, time_law};
+use diag_can::{LentEvent, TickCount};
+use diag_pdu::{DataLength, Message};
+use diag_tp::{Link, SentFrames, Taken, moments_law, time_law};
 
 /// Gives the link each message that is due.
 fn release(port: &mut Port)
@@ -49,6 +48,7 @@ fn release(port: &mut Port)
     ensures due { pending port.new.link.state + length port.new.held.messages
         ≤ pending port.old.link.state + length port.old.held.messages }
     ensures unsent { unsent_of port.new ≤ unsent_of port.old }
+    ensures setup { port.new.link.state.setup ≡ port.old.link.state.setup }
 {
     let now = port.link.now();
     while let Some(later) = port.held.pop_due(now) {
@@ -58,14 +58,12 @@ fn release(port: &mut Port)
 
 /// Hands out all frames that are due. Whether there are any is asked first, in the place of the call.
 #[inline(always)]
-fn send_due(link: &mut Link, out: &mut Vec<Sent>)
-    requires room { vec_len out.old + pending link.old.state ≤ vec_capacity out.old }
+fn send_due(link: &mut Link, out: &mut SentFrames)
+    requires room { HasRoomFor link.old.state (pending link.old.state) out.old }
     ensures stands { Grew out.old.items out.new.items (SentDue link.old.state link.new.state) }
     ensures time { link.new.state.now ≡ link.old.state.now }
     ensures drained { pending link.new.state ≡ 0 }
-    ensures unsent { vec_len out.new + unsent link.new.state
-        ≡ vec_len out.old + unsent link.old.state }
-    ensures capacity { vec_capacity out.new ≡ vec_capacity out.old }
+    ensures room { KeepsFrameRoom link.old.state link.new.state out.old out.new }
     ensures reply_rooms { link.old.reply_room ≤ link.new.reply_room }
 {
     if link.is_drained() {
@@ -76,19 +74,37 @@ fn send_due(link: &mut Link, out: &mut Vec<Sent>)
 
 /// The same, frame by frame.
 #[inline(never)]
-fn send_frames(link: &mut Link, out: &mut Vec<Sent>)
-    requires room { vec_len out.old + pending link.old.state ≤ vec_capacity out.old }
+fn send_frames(link: &mut Link, out: &mut SentFrames)
+    requires room { HasRoomFor link.old.state (pending link.old.state) out.old }
     ensures stands { Grew out.old.items out.new.items (SentDue link.old.state link.new.state) }
     ensures time { link.new.state.now ≡ link.old.state.now }
     ensures drained { pending link.new.state ≡ 0 }
-    ensures unsent { vec_len out.new + unsent link.new.state
-        ≡ vec_len out.old + unsent link.old.state }
-    ensures capacity { vec_capacity out.new ≡ vec_capacity out.old }
+    ensures room { KeepsFrameRoom link.old.state link.new.state out.old out.new }
+    ensures reply_rooms { link.old.reply_room ≤ link.new.reply_room }
+{
+    let DataLength::Dl8 = link.tx_dl() else {
+        return send_long_frames(link, out);
+    };
+    let at = link.now();
+    while let Some(frame) = link.next_frame() {
+        out.push(at, frame);
+    }
+}
+
+/// The same of a link that sends frames of more than 8 bytes.
+#[inline(never)]
+fn send_long_frames(link: &mut Link, out: &mut SentFrames)
+    requires long { 8 < in_bytes link.old.state.setup.framing.tx_dl }
+    requires room { HasRoomFor link.old.state (pending link.old.state) out.old }
+    ensures stands { Grew out.old.items out.new.items (SentDue link.old.state link.new.state) }
+    ensures time { link.new.state.now ≡ link.old.state.now }
+    ensures drained { pending link.new.state ≡ 0 }
+    ensures room { KeepsFrameRoom link.old.state link.new.state out.old out.new }
     ensures reply_rooms { link.old.reply_room ≤ link.new.reply_room }
 {
     let at = link.now();
-    while let Some(frame) = link.next_frame() {
-        out.push_reserved(Sent { at, frame });
+    while let Some(frame) = link.next_long_frame() {
+        out.push_long(at, frame);
     }
 }
 
@@ -97,16 +113,16 @@ fn send_frames(link: &mut Link, out: &mut Vec<Sent>)
 #[inline(always)]
 fn receive_alone(
     link: &mut Link,
-    event: &Event,
+    event: &LentEvent<'_>,
     taken: Taken<'_>,
     reply: &mut Option<Message>,
-    out: &mut Vec<Sent>,
+    out: &mut SentFrames,
 )
     requires taken { IsTaken link.old.state event.now taken }
     requires drained { pending link.old.state ≡ 0 }
     requires fits { FitsIn link.old taken }
     requires reply_room { IsTrue (has_reply_room link.old) }
-    requires room { vec_len out.old + unsent link.old.state + 2 ≤ vec_capacity out.old }
+    requires room { HasRoomFor link.old.state (unsent link.old.state + 2) out.old }
     ensures received { Grew out.old.items out.new.items (λ more. AreWithin link.old.state.now link.new.state.now more
         × ((s : ALinkSetup) (E : List AnEvent) (A : List Placed) (Q : List ASent)
         → StandsFor s link.old.state E A Q
@@ -121,10 +137,7 @@ fn receive_alone(
     link.settle(taken);
     match reply.as_ref() {
         Some(message) => match link.answer_alone(message) {
-            Some(frame) => out.push_reserved(Sent {
-                at: link.now(),
-                frame,
-            }),
+            Some(frame) => out.push(link.now(), frame),
             None => place(link, reply, out),
         },
         None => send_due(link, out),
@@ -133,9 +146,9 @@ fn receive_alone(
 
 /// Places a reply, and hands out all frames that are due.
 #[inline(never)]
-fn place(link: &mut Link, reply: &mut Option<Message>, out: &mut Vec<Sent>)
+fn place(link: &mut Link, reply: &mut Option<Message>, out: &mut SentFrames)
     requires reply_room { IsTrue (has_reply_room link.old) }
-    requires room { vec_len out.old + pending link.old.state + 1 ≤ vec_capacity out.old }
+    requires room { HasRoomFor link.old.state (pending link.old.state + 1) out.old }
     ensures placed { Grew out.old.items out.new.items (λ more. AreWithin link.old.state.now link.new.state.now more
         × ((s : ALinkSetup) (E : List AnEvent) (A : List Placed) (Q : List ASent)
         → StandsFor s link.old.state E A Q
@@ -154,17 +167,17 @@ fn place(link: &mut Link, reply: &mut Option<Message>, out: &mut Vec<Sent>)
 }
 
 /// So many ticks, before the last of which nothing falls due, and what falls due then.
-fn move_on(port: &mut Port, part: TickCount, out: &mut Vec<Sent>)
+fn move_on(port: &mut Port, part: TickCount, out: &mut SentFrames)
     requires rest { IsAtRest port.old }
     requires quiet { part ≤ quiet port.old.link.state }
     requires before { part ≤ until_due port.old.link.state.now port.old.held.messages }
-    requires room { vec_len out.old + unsent_of port.old ≤ vec_capacity out.old }
+    requires room { HasRoomFor port.old.link.state (unsent_of port.old) out.old }
     ensures passed { Grew out.old.items out.new.items (Passed (port_of port.old) (port_of port.new) part) }
     ensures rest { IsAtRest port.new }
     ensures pace { port.new.pace ≡ port.old.pace }
     ensures time { port.new.link.state.now ≡ min (port.old.link.state.now + part) last_tick }
     ensures later { port.old.link.state.now ≤ port.new.link.state.now }
-    ensures room { vec_len out.new + unsent_of port.new ≤ vec_capacity out.new }
+    ensures room { HasRoomFor port.new.link.state (unsent_of port.new) out.new }
 {
     // (for its contract: a count is at least 1)
     let _some = part.get();
@@ -174,14 +187,14 @@ fn move_on(port: &mut Port, part: TickCount, out: &mut Vec<Sent>)
 }
 
 /// Lets so many ticks pass, in moves before whose last tick nothing falls due.
-fn pass_in_moves(port: &mut Port, count: TickCount, out: &mut Vec<Sent>)
+fn pass_in_moves(port: &mut Port, count: TickCount, out: &mut SentFrames)
     requires rest { IsAtRest port.old }
-    requires room { vec_len out.old + unsent_of port.old ≤ vec_capacity out.old }
+    requires room { HasRoomFor port.old.link.state (unsent_of port.old) out.old }
     ensures passed { Grew out.old.items out.new.items (Passed (port_of port.old) (port_of port.new) count) }
     ensures rest { IsAtRest port.new }
     ensures pace { port.new.pace ≡ port.old.pace }
     ensures time { port.new.link.state.now ≡ min (port.old.link.state.now + count) last_tick }
-    ensures room { vec_len out.new + unsent_of port.new ≤ vec_capacity out.new }
+    ensures room { HasRoomFor port.new.link.state (unsent_of port.new) out.new }
 {
     moments_law();
     time_law();
@@ -198,9 +211,9 @@ fn pass_in_moves(port: &mut Port, count: TickCount, out: &mut Vec<Sent>)
 
 /// Lets so many ticks pass, and hands out what falls due.
 #[inline(always)]
-pub(crate) fn pass(port: &mut Port, count: TickCount, out: &mut Vec<Sent>)
+pub(crate) fn pass(port: &mut Port, count: TickCount, out: &mut SentFrames)
     requires rest { IsAtRest port.old }
-    requires room { vec_len out.old + unsent_of port.old ≤ vec_capacity out.old }
+    requires room { HasRoomFor port.old.link.state (unsent_of port.old) out.old }
     ensures passed { Grew out.old.items out.new.items (Passed (port_of port.old) (port_of port.new) count) }
     ensures rest { IsAtRest port.new }
     ensures pace { port.new.pace ≡ port.old.pace }
@@ -232,16 +245,16 @@ fn pass_quiet(port: &mut Port, count: TickCount)
 #[inline(always)]
 pub(crate) fn receive_at_once(
     port: &mut Port,
-    event: &Event,
+    event: &LentEvent<'_>,
     taken: Taken<'_>,
     reply: &mut Option<Message>,
-    out: &mut Vec<Sent>,
+    out: &mut SentFrames,
 )
     requires taken { IsTaken port.old.link.state event.now taken }
     requires rest { IsAtRest port.old }
     requires fits { FitsIn port.old.link taken }
     requires reply_room { IsTrue (has_reply_room port.old.link) }
-    requires room { vec_len out.old + unsent port.old.link.state + 2 ≤ vec_capacity out.old }
+    requires room { HasRoomFor port.old.link.state (unsent port.old.link.state + 2) out.old }
     requires none_held { port.old.held.messages ≡ [] }
     ensures received { (sid : ℕ) → Grew out.old.items out.new.items
         (Received (port_of port.old) (port_of port.new) event.now 0 sid reply.old) }
@@ -258,17 +271,17 @@ pub(crate) fn receive_at_once(
 #[inline(never)]
 pub(crate) fn receive_held(
     port: &mut Port,
-    event: &Event,
+    event: &LentEvent<'_>,
     taken: Taken<'_>,
     reply: &mut Option<Message>,
     after: u32,
     sid: u8,
-    out: &mut Vec<Sent>,
+    out: &mut SentFrames,
 )
     requires taken { IsTaken port.old.link.state event.now taken }
     requires rest { IsAtRest port.old }
     requires fits { FitsIn port.old.link taken }
-    requires can { CanHold port.old (vec_len out.old) (vec_capacity out.old) }
+    requires can { CanHold port.old out.old }
     ensures received { Grew out.old.items out.new.items
         (Received (port_of port.old) (port_of port.new) event.now after sid reply.old) }
     ensures time { port.new.link.state.now ≡ port.old.link.state.now }

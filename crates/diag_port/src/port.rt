@@ -9,7 +9,7 @@ ghost use Rattle.diag_port.specs.Standing.{PortStands};
 
 use crate::held::Held;
 use crate::pace::Pace;
-use diag_can::Event;
+use diag_can::{EventKind, LentEvent};
 use diag_pdu::LinkSetup;
 use diag_tp::{Link, gives_law};
 use std::alloc::Global;
@@ -48,14 +48,14 @@ impl Port {
     }
 
     /// Whether the event gives a step.
-    pub fn gives_step(&self, event: &Event) -> bool
+    pub fn gives_step(&self, event: &LentEvent<'_>) -> bool
         ensures { EachHistory self.now.link.state (λ s E A Q.
             IsTrue result ↔ IsSome (gives s E event.now)) }
     {
         gives_law();
-        match event {
-            Event::Ticks(_) => true,
-            Event::Physical(_) | Event::Functional(_) => self.link.completes(event),
+        match event.kind() {
+            EventKind::Ticks(_) => true,
+            EventKind::Physical(_) | EventKind::Functional(_) => self.link.completes(event),
         }
     }
 

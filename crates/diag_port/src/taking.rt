@@ -13,8 +13,6 @@ ghost use Rattle.std.specs.Prelude.{
   None,
   OnErr,
   OnOk,
-  vec_len,
-  vec_capacity,
 };
 ghost use Rattle.diag_can.specs.declared.frame.Event.{Event as AnEvent};
 ghost use Rattle.diag_pdu.specs.declared.step.Step.{Step as AStep};
@@ -22,17 +20,17 @@ ghost use Rattle.diag_tp.specs.Link.{is_frame, pending};
 ghost use Rattle.diag_tp.specs.Taken.{asked_in};
 ghost use Rattle.diag_port.specs.Fault.{IsFaultBy};
 ghost use Rattle.diag_port.specs.Releasing.{sid_of};
-ghost use Rattle.diag_port.specs.Port.{CanHold, Grew, IsAtRest, port_of, unsent_of};
+ghost use Rattle.diag_port.specs.Port.{CanHold, Grew, HasRoomFor, IsAtRest, port_of, unsent_of};
 ghost use Rattle.diag_port.specs.Standing.{GivesStep, IsPrepared, PortTook, RefusedEvent, TookEvent};
 
 use crate::held::MOST_PENDINGS;
 use crate::passing::{pass, receive_at_once, receive_held};
 use crate::port::Port;
 use crate::stepping::TakeSteps;
-use diag_can::{Event, TickCount};
+use diag_can::{EventKind, LentEvent, TickCount};
 use diag_pdu::Request;
 use diag_setup::TesterId;
-use diag_tp::{Sent, Taken};
+use diag_tp::{SentFrames, Taken};
 use std::alloc::AllocError;
 
 /// Takes an event of a tester at its port: has the step that it gives taken, and hands out what is due. All growths here
@@ -45,9 +43,9 @@ use std::alloc::AllocError;
 pub fn take<T: TakeSteps>(
     port: &mut Port,
     who: TesterId,
-    event: &Event,
+    event: &LentEvent<'_>,
     taker: &mut T,
-    out: &mut Vec<Sent>,
+    out: &mut SentFrames,
 ) -> Result<(), T::Fault>
     requires rest { IsAtRest port.old }
     requires allows { T.allows taker.old who port.old.link.state.now }
@@ -60,8 +58,8 @@ pub fn take<T: TakeSteps>(
         (T.is_full taker.old × GivesStep port.old.link.state event.now)) }
     ensures stays { T.stays taker.old taker.new }
 {
-    if let Event::Ticks(count) = event {
-        return take_ticks(port, who, *count, taker, out);
+    if let EventKind::Ticks(count) = event.kind() {
+        return take_ticks(port, who, count, taker, out);
     }
     let delays = taker.can_delay();
     let taken = prepare(port, event, delays, out)?;
@@ -83,7 +81,7 @@ fn take_ticks<T: TakeSteps>(
     who: TesterId,
     count: TickCount,
     taker: &mut T,
-    out: &mut Vec<Sent>,
+    out: &mut SentFrames,
 ) -> Result<(), T::Fault>
     requires rest { IsAtRest port.old }
     requires allows { T.allows taker.old who port.old.link.state.now }
@@ -103,12 +101,13 @@ fn take_ticks<T: TakeSteps>(
 
 /// Makes room for all frames that may fall due as time passes.
 #[inline(always)]
-fn make_tick_room(port: &Port, out: &mut Vec<Sent>) -> Result<(), AllocError>
+fn make_tick_room(port: &Port, out: &mut SentFrames) -> Result<(), AllocError>
     requires rest { IsAtRest port.now }
     ensures out { out.new.items ≡ out.old.items }
-    ensures room { OnOk result (vec_len out.new + unsent_of port.now ≤ vec_capacity out.new) }
+    ensures room { OnOk result (HasRoomFor port.now.link.state (unsent_of port.now) out.new) }
 {
-    out.reserve(port.link.backlog().saturating_add(port.held.frames()) as usize)
+    let most = port.link.backlog().saturating_add(port.held.frames());
+    out.reserve(port.link.tx_dl(), most as usize)
 }
 
 /// Reads a frame, and makes room for it and for what it may draw; where a reply may go later, or something is held, for all
@@ -116,22 +115,20 @@ fn make_tick_room(port: &Port, out: &mut Vec<Sent>) -> Result<(), AllocError>
 #[inline(always)]
 fn prepare<'f>(
     port: &mut Port,
-    event: &'f Event,
+    event: &LentEvent<'f>,
     delays: bool,
-    out: &mut Vec<Sent>,
+    out: &mut SentFrames,
 ) -> Result<Taken<'f>, AllocError>
     requires rest { IsAtRest port.old }
     requires frame { IsTrue (is_frame event.now) }
     ensures same { port_of port.new ≡ port_of port.old }
     ensures rest { IsAtRest port.new }
     ensures out { out.new.items ≡ out.old.items }
-    ensures prepared { IfOk result (λ taken.
-        IsPrepared port.new event.now taken (vec_len out.new) (vec_capacity out.new)) }
-    ensures delays { delays ≡ true
-        → OnOk result (CanHold port.new (vec_len out.new) (vec_capacity out.new)) }
+    ensures prepared { IfOk result (λ taken. IsPrepared port.new event.now taken out.new) }
+    ensures delays { delays ≡ true → OnOk result (CanHold port.new out.new) }
 {
     let most = port.link.backlog().saturating_add(2) as usize;
-    out.reserve(most)?;
+    out.reserve(port.link.tx_dl(), most)?;
     if delays || !port.held.is_empty() {
         make_hold_room(port, out)?;
     }
@@ -141,13 +138,12 @@ fn prepare<'f>(
 /// Makes room for the messages of one more reply, in what is held, in the link and in the frames.
 #[cold]
 #[inline(never)]
-fn make_hold_room(port: &mut Port, out: &mut Vec<Sent>) -> Result<(), AllocError>
+fn make_hold_room(port: &mut Port, out: &mut SentFrames) -> Result<(), AllocError>
     requires drained { pending port.old.link.state ≡ 0 }
     ensures same { port_of port.new ≡ port_of port.old }
     ensures rooms { port.old.link.reply_room ≤ port.new.link.reply_room }
     ensures out { out.new.items ≡ out.old.items }
-    ensures capacity { vec_capacity out.old ≤ vec_capacity out.new }
-    ensures can { OnOk result (CanHold port.new (vec_len out.new) (vec_capacity out.new)) }
+    ensures can { OnOk result (CanHold port.new out.new) }
 {
     let most = MOST_PENDINGS as usize + 1;
     let len = port.held.len();
@@ -158,15 +154,14 @@ fn make_hold_room(port: &mut Port, out: &mut Vec<Sent>) -> Result<(), AllocError
         .backlog()
         .saturating_add(len as u64)
         .saturating_add(most as u64 + 1);
-    out.reserve(frames as usize)
+    out.reserve(port.link.tx_dl(), frames as usize)
 }
 
 /// Takes a frame that was read and has room, and asks nothing.
 #[cold]
 #[inline(never)]
-fn take_silent(port: &mut Port, event: &Event, taken: Taken<'_>, out: &mut Vec<Sent>)
-    requires prepared { IsPrepared
-        port.old event.now taken (vec_len out.old) (vec_capacity out.old) }
+fn take_silent(port: &mut Port, event: &LentEvent<'_>, taken: Taken<'_>, out: &mut SentFrames)
+    requires prepared { IsPrepared port.old event.now taken out.old }
     requires silent { asked_in port.old.link taken ≡ None }
     ensures took { (who : ℕ) → Grew out.old.items out.new.items (λ more.
         PortTook (port_of port.old) (port_of port.new) who event.now None more) }
@@ -185,15 +180,13 @@ fn take_silent(port: &mut Port, event: &Event, taken: Taken<'_>, out: &mut Vec<S
 fn take_request<T: TakeSteps>(
     port: &mut Port,
     who: TesterId,
-    event: &Event,
+    event: &LentEvent<'_>,
     taken: Taken<'_>,
     taker: &mut T,
-    out: &mut Vec<Sent>,
+    out: &mut SentFrames,
 ) -> Result<(), T::Fault>
-    requires prepared { IsPrepared
-        port.old event.now taken (vec_len out.old) (vec_capacity out.old) }
-    requires delays { T.can_delay taker.old ≡ true
-        → CanHold port.old (vec_len out.old) (vec_capacity out.old) }
+    requires prepared { IsPrepared port.old event.now taken out.old }
+    requires delays { T.can_delay taker.old ≡ true → CanHold port.old out.old }
     requires allows { T.allows taker.old who port.old.link.state.now }
     ensures took { OnOk result (TookEvent T.takes (port_of port.old) (port_of port.new) taker.old taker.new
         who event.now out.old.items out.new.items) }

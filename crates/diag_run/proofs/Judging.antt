@@ -1,5 +1,5 @@
 -- What the verdict says of a recording that is judged.
-use Rattle.std.proofs.Common.{◌≡◌, ◌≢◌, ℕ, Bool, true, false, List, [], ◌++◌, Ok, Err, IfOk, IfSome, Result, Vec, Global, append-nil, inl, inr, refl, ap, ap₂, sym, subst, ◌∙◌}
+use Rattle.std.proofs.Common.{◌≡◌, ◌≢◌, ℕ, Bool, true, false, List, [], ◌++◌, Ok, Err, IfOk, IfSome, Result, Vec, Global, append-nil, inl, inr, refl, ap, sym, subst, ◌∙◌}
 use Rattle.std.specs.Prelude.{if◌then◌else◌}
 use Rattle.std.specs.Result.{result_ok}
 use Rattle.diag_setup.specs.declared.raw.RawSetup.{RawSetup}

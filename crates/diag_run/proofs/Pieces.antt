@@ -16,7 +16,7 @@ use Rattle.diag_bus.specs.declared.fault.BusFault.{BusFault}
 use Rattle.diag_bus.specs.declared.fault.BusFault.TheVariants as bus
 use Rattle.diag_bus.proofs.Faults.{first_fault_at}
 use Rattle.std.specs.Io.KnownBytes.{Appends, IsAtEnd}
-use Rattle.diag_run.specs.Capture.{IsCutShort, IsFaultyLine, IsOutOfMemory, IsFrontOf, StopsAt, StopsIn, StopsOn, capture_text, closing}
+use Rattle.diag_run.specs.Capture.{IsCutShort, IsFaultyLine, IsFrontOf, StopsAt, StopsIn, StopsOn, capture_text, closing}
 use Rattle.diag_desk.specs.declared.entry.Entry.{Entry}
 use Rattle.diag_run.specs.Wanted.{End, EndsWith, IsEndFault, Wanted, end_with, wanted}
 use Rattle.diag_run.specs.Faults.{fault_at}

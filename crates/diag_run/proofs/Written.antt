@@ -9,10 +9,11 @@ use Rattle.std.specs.List.{concat}
 use Rattle.std.specs.Option.{option_to_list}
 use Rattle.diag_can.specs.declared.frame.Event.{Event}
 use Rattle.diag_can.specs.Reply.{reply_line}
+use Rattle.diag_can.specs.WriterView.{WriterView}
 use Rattle.diag_can.specs.declared.log.Timing.{Timing}
 use Rattle.diag_can.specs.declared.log.Timing.TheVariants.{Lines, Stamps}
 use Rattle.diag_setup.specs.declared.raw.RawSetup.{RawSetup}
-use Rattle.diag_setup.specs.Setup.{link_of, name_of}
+use Rattle.diag_setup.specs.Setup.{link_of}
 use Rattle.diag_pdu.proofs.CutFrames.{length-counted}
 use Rattle.diag_pdu.proofs.Lists.{map-at}
 use Rattle.diag_pdu.specs.Cut.{counted_from}
@@ -35,7 +36,7 @@ use Rattle.diag_world.specs.World.{Stands, WorldState}
 use Rattle.diag_world.proofs.Worlds.{other_place, set_cases}
 use Rattle.diag_bus.specs.Node.{IsBy}
 use Rattle.diag_bus.proofs.Nodes.{clock_told}
-use Rattle.diag_text.specs.Text.{end_text, journal_part, lines_from, lines_of}
+use Rattle.diag_text.specs.Text.{end_text, journal_part, lines_from, lines_of, writer_of}
 use Rattle.diag_text.proofs.Lines.{concat_more}
 use Rattle.diag_run.specs.Playing.{AreTexts, AreUnwritten, Enters, EntersMore, EntersOne, IsReady, Plays, Replies, Terms, Took, WroteTo, version_of, parts_text}
 use Rattle.diag_run.specs.Run.{played_text}
@@ -162,12 +163,12 @@ wrote_one lines place frames before after found named text = record {
 }
 
 -- the lines of a tester who was sent further frames
-pub replies_more : (name : List ℕ) (before tester : ReplyLines) (sent more all : List Sent) → Replies name before sent
+pub replies_more : (name : WriterView) (before tester : ReplyLines) (sent more all : List Sent) → Replies name before sent
     → tester.writer ≡ before.writer → tester.text.items ≡ before.text.items ++ lines_of before.writer more → all ≡ sent ++ more
     → Replies name tester all
 replies_more name before tester sent more all h named text grown = record {
   named = named ∙ h.named;
-  text = text ∙ (λ j. h.text j ++ lines_of (h.named j) more) ∙ sym (flat_map-append (λ (s : Sent). reply_line name s.at s.frame) sent more) ∙ ap (lines_of name) (sym grown);
+  text = text ∙ (λ j. h.text j ++ lines_of (h.named j) more) ∙ sym (flat_map-append (λ (s : Sent). reply_line name.name name.flags s.at s.frame) sent more) ∙ ap (lines_of name) (sym grown);
 }
 
 -- an event more, of which all is written
@@ -189,7 +190,7 @@ plays_more old mid new who e some took lines server journal wrote terms M h =
           let was = wrote.each i tester at in
           let before = was.0 in
           let replies = h.each i before (subst (λ ls. slice_get ls.items i ≡ Some before) lines was.1) in
-          let name = name_of terms.setup (i + 1) in
+          let name = writer_of terms.setup (i + 1) in
           let result : Replies name tester (sent_to terms.setup M' K' (i + 1)) = elim was.3 [
             | inl p ↦ (
                 let here : who ≡ i + 1 = omega (arith, p.0, place) in
@@ -221,7 +222,7 @@ plays_begin terms playing serves enters none many = record {
   many = many;
   each = λ i tester at.
       let first = none i tester at in
-      record { named = first.named; text = first.text ∙ ap (lines_of (name_of terms.setup (i + 1))) (sym (nothing_drawn (link_of terms.setup (i + 1)) (pace_of terms.setup))) };
+      record { named = first.named; text = first.text ∙ ap (lines_of (writer_of terms.setup (i + 1))) (sym (nothing_drawn (link_of terms.setup (i + 1)) (pace_of terms.setup))) };
 }
 
 pub ready_begins : (setup : RawSetup) (playing : Playing) → Serves setup (server_of playing.server) [] [] → playing.journal.count ≡ 0 → playing.out.items ≡ []
@@ -243,15 +244,15 @@ journal_said Stamps K = refl
 
 -- the testers' lines, one behind the other
 lines_whole : (setup : RawSetup) (f : ℕ → List Sent) (n : ℕ) (lines : List ReplyLines)
-    → ((i : ℕ) (tester : ReplyLines) → slice_get lines i ≡ Some tester → tester.text.items ≡ lines_of (name_of setup (n + i)) (f (n + i)))
+    → ((i : ℕ) (tester : ReplyLines) → slice_get lines i ≡ Some tester → tester.text.items ≡ lines_of (writer_of setup (n + i)) (f (n + i)))
     → concat (map (λ tester. tester.text.items) lines) ≡ lines_from setup n (map f (counted_from n (length lines)))
 unfolding lines_from
 lines_whole setup f n [] h = refl
 lines_whole setup f n (tester ∷ lines) h =
     let none : n + 0 ≡ n = omega arith in
-    let own : tester.text.items ≡ lines_of (name_of setup n) (f n) = h 0 tester refl ∙ ap (λ k. lines_of (name_of setup k) (f k)) none in
-    let others : (i : ℕ) (t : ReplyLines) → slice_get lines i ≡ Some t → t.text.items ≡ lines_of (name_of setup ((n + 1) + i)) (f ((n + 1) + i)) =
-    λ i t at. h (suc i) t at ∙ ap (λ k. lines_of (name_of setup k) (f k)) (omega arith) in
+    let own : tester.text.items ≡ lines_of (writer_of setup n) (f n) = h 0 tester refl ∙ ap (λ k. lines_of (writer_of setup k) (f k)) none in
+    let others : (i : ℕ) (t : ReplyLines) → slice_get lines i ≡ Some t → t.text.items ≡ lines_of (writer_of setup ((n + 1) + i)) (f ((n + 1) + i)) =
+    λ i t at. h (suc i) t at ∙ ap (λ k. lines_of (writer_of setup k) (f k)) (omega arith) in
     ap₂ ◌++◌ own (lines_whole setup f (n + 1) lines others
     ∙ ap (λ k. lines_from setup (n + 1) (map f (counted_from k (length lines)))) (add-one n))
 
@@ -330,6 +331,6 @@ parts_whole terms playing M h =
     let f = sent_to setup M h.entries in
     let lines = playing.lines.items in
     let all = lines_whole setup f 1 lines (λ i tester at.
-    (h.each i tester at).text ∙ ap (λ k. lines_of (name_of setup k) (f k)) (omega arith)) in
+    (h.each i tester at).text ∙ ap (λ k. lines_of (writer_of setup k) (f k)) (omega arith)) in
     parts_said terms.only_journal terms.timing setup h.entries f lines playing.journal.text.items playing.server.ecu
     (h.journal.text ∙ journal_said terms.timing h.entries) h.serves.ecu all h.many

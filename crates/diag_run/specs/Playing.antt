@@ -3,11 +3,12 @@ use Rattle.std.specs.Prelude.{◌≡◌, ◌≢◌, ◌≤◌, ◌⊎◌, ℕ, �
 use Rattle.std.specs.Global.{Vec}
 use Rattle.std.specs.List.{concat}
 use Rattle.std.specs.Option.{option_to_list}
+use Rattle.diag_can.specs.WriterView.{WriterView}
 use Rattle.diag_can.specs.declared.frame.Event.{Event}
 use Rattle.diag_can.specs.declared.log.Timing.{Timing}
 use Rattle.diag_can.specs.declared.log.Timing.TheVariants.{Lines, Stamps}
 use Rattle.diag_setup.specs.declared.raw.RawSetup.{RawSetup}
-use Rattle.diag_setup.specs.Setup.{link_of, name_of}
+use Rattle.diag_setup.specs.Setup.{link_of}
 use Rattle.diag_tp.specs.declared.sent.Sent.{Sent}
 use Rattle.diag_tp.specs.Gives.{gives}
 use Rattle.diag_desk.specs.declared.entry.Entry.{Entry}
@@ -18,7 +19,7 @@ use Rattle.diag_desk.specs.Text.{text_of, ticks_of}
 use Rattle.diag_world.specs.Server.{EachRun, Served, Serves, sent_to, server_of}
 use Rattle.diag_world.specs.Weaving.{items_of}
 use Rattle.diag_bus.specs.Node.{IsBy}
-use Rattle.diag_text.specs.Text.{end_text, lines_of}
+use Rattle.diag_text.specs.Text.{end_text, lines_of, writer_of}
 use Rattle.diag_run.specs.declared.journal_lines.JournalLines.{JournalLines}
 use Rattle.diag_run.specs.declared.replies.ReplyLines.{ReplyLines}
 use Rattle.diag_run.specs.declared.playing.Playing.{Playing}
@@ -64,14 +65,14 @@ IsUnkept old new = (new.text.items ≡ old.text.items)
 -- ---- the reply lines
 
 -- the lines of the tester of this name, who was sent these frames
-pub record Replies (name : List ℕ) (lines : ReplyLines) (sent : List Sent) : Type 0 where
+pub record Replies (name : WriterView) (lines : ReplyLines) (sent : List Sent) : Type 0 where
   pub named : lines.writer ≡ name
   pub text : lines.text.items ≡ lines_of name sent
 
 -- no tester was sent a frame
 abbrev pub AreUnwritten : RawSetup → List ReplyLines → Type 0
 AreUnwritten setup lines = (i : ℕ) (tester : ReplyLines) → slice_get lines i ≡ Some tester
-    → Replies (name_of setup (i + 1)) tester []
+    → Replies (writer_of setup (i + 1)) tester []
 
 -- the lines of each tester in order
 abbrev pub AreTexts : List ReplyLines → List (Vec ℕ) → Type 0
@@ -109,7 +110,7 @@ pub record Plays (terms : Terms) (playing : Playing) (M : List (ℕ × Event)) :
   pub many : length playing.lines.items
       ≡ (if terms.only_journal then 0 else length terms.setup.testers)
   pub each : (i : ℕ) (tester : ReplyLines) → slice_get playing.lines.items i ≡ Some tester
-      → Replies (name_of terms.setup (i + 1)) tester (sent_to terms.setup M entries (i + 1))
+      → Replies (writer_of terms.setup (i + 1)) tester (sent_to terms.setup M entries (i + 1))
 
 -- a tester's event more: the server took it, its entry is written, and what it draws waits
 pub record Entered (playing : Playing) (setup : RawSetup) (version : JournalVersion) (M : List (ℕ × Event))

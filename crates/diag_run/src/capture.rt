@@ -3,6 +3,7 @@
 ghost use Rattle.std.specs.Prelude.{◌≡◌, ◌≢◌, ◌⊎◌, ◌+◌, ◌<◌, ◌≤◌, ◌^◌, ◌∷◌, [], ◌++◌, ℕ, List, length, vec_len, Ok, Err, IsOk, IfOk, IfSome, IfErr, OnErr, OnOk};
 ghost use Rattle.std.specs.Io.KnownBytes.{Appends};
 ghost use Rattle.diag_can.specs.BusLine.{HasNoFeed, bus_line, ended_lines};
+ghost use Rattle.diag_can.specs.declared.frame.KnownId.{KnownId as AKnownId};
 ghost use Rattle.diag_bus.specs.Bus.{AnswersLine, TookLines};
 ghost use Rattle.diag_text.specs.Bytes.{AppendsFront, Sends};
 ghost use Rattle.diag_world.specs.Block.{some_in_block};
@@ -142,7 +143,7 @@ impl<S: Ending> Capture<S> {
     ) -> Result<(), CaptureFault>
         requires room { self.old.lines + 1 < 2 ^ 64 }
         requires line { HasNoFeed bytes.now }
-        requires says { IfSome said (λ said. (known : List ℕ) → bus_line known bytes.now ≡ Ok said) }
+        requires says { IfSome said (λ said. (known : List AKnownId) → bus_line known bytes.now ≡ Ok said) }
         ensures ok { OnOk result (Sends (W.contents out.old) (W.contents out.new)
             (GoesOn S.took (wanted S.written S.ends S.aim) self.old self.new (bytes.now ++ 10 ∷ []))) }
         ensures lines { OnOk result (self.new.lines ≡ self.old.lines + 1) }
@@ -190,7 +191,7 @@ impl<S: Ending> Capture<S> {
     fn end_line(&mut self, bytes: &[u8], said: Option<BusLine>) -> Result<(), BusFault>
         requires room { self.old.lines + 1 < 2 ^ 64 }
         requires line { HasNoFeed bytes.now }
-        requires says { IfSome said (λ said. (known : List ℕ) → bus_line known bytes.now ≡ Ok said) }
+        requires says { IfSome said (λ said. (known : List AKnownId) → bus_line known bytes.now ≡ Ok said) }
         ensures ok { OnOk result (GoesOn S.took (wanted S.written S.ends S.aim) self.old self.new (bytes.now ++ 10 ∷ []) []) }
         ensures lines { OnOk result (self.new.lines ≡ self.old.lines + 1) }
         ensures kept { OnOk result (self.new.kept.items ≡ []) }
@@ -209,7 +210,7 @@ impl<S: Ending> Capture<S> {
     fn take_told(&mut self, line: &[u8], said: BusLine) -> Result<(), BusFault>
         requires room { self.old.lines + 1 < 2 ^ 64 }
         requires line { HasNoFeed line.now }
-        requires says { (known : List ℕ) → bus_line known line.now ≡ Ok said }
+        requires says { (known : List AKnownId) → bus_line known line.now ≡ Ok said }
         requires none { self.old.kept.items ≡ [] }
         ensures ok { OnOk result (GoesOn S.took (wanted S.written S.ends S.aim) self.old self.new (line.now ++ 10 ∷ []) []) }
         ensures lines { OnOk result (self.new.lines ≡ self.old.lines + 1) }
@@ -350,7 +351,7 @@ fn give<S: Sink>(
     said: BusLine,
     text: &mut Vec<u8>,
 ) -> Result<(), BusFault>
-    requires { (known : List ℕ) → bus_line known line.now ≡ Ok said }
+    requires { (known : List AKnownId) → bus_line known line.now ≡ Ok said }
     ensures { AnswersLine S.took S.aim S.written bus.old bus.new line.now text.old.items text.new.items result }
 {
     // (for its contract: it is the line that says this)

@@ -107,7 +107,11 @@ impl Ending for Comparisons {
         _: &Ecu,
         text: &mut Vec<u8>,
     ) -> Result<u8, CaptureFault> {
-        match self.verdict(setup) {
+        let Ok(verdict) = self.verdict(setup) else {
+            // (memory was refused for what it names, so for what is told of it)
+            return Err(CaptureFault::Otherwise(None));
+        };
+        match verdict {
             Verdict::Agrees => {
                 let agreed = agreement_text(alloc, setup, self)?;
                 text.extend_from_slice(agreed.as_slice())?;

@@ -6,11 +6,11 @@ ghost use Rattle.diag_run.specs.Run.{joined};
 
 use crate::journal_lines::JournalLines;
 use crate::replies::{ReplyLines, add_at, first_lines, texts_of};
-use diag_can::{Event, Timing};
+use diag_can::{LentEvent, Timing};
 use diag_desk::StepFault;
 use diag_setup::{Setup, TesterId};
 use diag_text::end_text;
-use diag_tp::Sent;
+use diag_tp::SentFrames;
 use diag_world::{Server, TakeEvents};
 use std::alloc::{AllocError, Global};
 
@@ -20,7 +20,7 @@ pub struct Playing {
     /// The ECU and each tester's link.
     pub server: Server,
     /// The frames that an event draws, until their lines are written.
-    pub out: Vec<Sent>,
+    pub out: SentFrames,
     /// The journal's text.
     pub journal: JournalLines,
     /// The reply lines of each tester, or of none where the journal alone is wanted.
@@ -45,14 +45,14 @@ impl Playing {
         let lines = first_lines(alloc, setup, only_journal)?;
         Ok(Playing {
             server,
-            out: Vec::new(alloc),
+            out: SentFrames::new(alloc),
             journal,
             lines,
         })
     }
 
     /// Has the server take an event of a tester, and writes the entry that it gives.
-    fn take(&mut self, who: TesterId, event: &Event) -> Result<(), StepFault>
+    fn take(&mut self, who: TesterId, event: &LentEvent<'_>) -> Result<(), StepFault>
         requires in_setup { (1 ≤ who) × (who ≤ length self.old.server.ports) }
         requires ready { IsReady self.old }
         ensures took { OnOk result (Took self.old self.new who event.now) }
@@ -78,7 +78,7 @@ impl Playing {
             return Ok(());
         }
         let index = who.index();
-        add_at(&mut self.lines, index, self.out.as_slice())?;
+        add_at(&mut self.lines, index, &self.out)?;
         self.out.clear();
         Ok(())
     }
@@ -119,7 +119,7 @@ impl TakeEvents for Playing {
 
     ghost took = { λ playing terms M. IsReady playing × Plays terms playing M };
 
-    fn take_event(&mut self, who: TesterId, event: &Event) -> Result<(), StepFault> {
+    fn take_event(&mut self, who: TesterId, event: &LentEvent<'_>) -> Result<(), StepFault> {
         self.take(who, event)?;
         self.write_replies(who)?;
         Ok(())

@@ -1,13 +1,12 @@
 //! The reply lines of a tester, as they are written frame by frame.
 
 ghost use Rattle.std.specs.Prelude.{◌≡◌, ◌≤◌, ◌++◌, [], if◌then◌else◌, length, IfOk, OnOk};
-ghost use Rattle.diag_setup.specs.Setup.{name_of};
-ghost use Rattle.diag_text.specs.Text.{lines_of};
+ghost use Rattle.diag_text.specs.Text.{lines_of, writer_of};
 ghost use Rattle.diag_run.specs.Playing.{AreTexts, AreUnwritten, Replies, WroteTo};
 
 use diag_can::LineWriter;
 use diag_setup::{Setup, TesterId};
-use diag_tp::Sent;
+use diag_tp::SentFrames;
 use std::alloc::{AllocError, Global};
 
 /// The reply lines of a tester, and what writes them.
@@ -23,9 +22,14 @@ impl ReplyLines {
     /// No line of this tester yet.
     pub fn new(alloc: Global, setup: &Setup, who: TesterId) -> Result<ReplyLines, AllocError>
         requires { who ≤ length setup.now.testers }
-        ensures { IfOk result (λ lines. Replies (name_of setup.now who) lines []) }
+        ensures { IfOk result (λ lines. Replies (writer_of setup.now who) lines []) }
     {
-        let writer = LineWriter::new(alloc, setup.name(who), setup.ids(who).response)?;
+        let writer = LineWriter::new(
+            alloc,
+            setup.name(who),
+            setup.ids(who).response,
+            setup.flags(who),
+        )?;
         Ok(ReplyLines {
             text: Vec::new(alloc),
             writer,
@@ -33,13 +37,15 @@ impl ReplyLines {
     }
 
     /// Adds the lines of these frames.
-    pub fn add(&mut self, sent: &[Sent]) -> Result<(), AllocError>
+    pub fn add(&mut self, sent: &SentFrames) -> Result<(), AllocError>
         ensures text { OnOk result
-            (self.new.text.items ≡ self.old.text.items ++ lines_of self.old.writer sent.now) }
+            (self.new.text.items ≡ self.old.text.items ++ lines_of self.old.writer sent.now.items) }
         ensures writer { self.new.writer ≡ self.old.writer }
     {
-        for frame in sent {
-            self.writer.write(&mut self.text, frame.at, &frame.frame)?;
+        for index in 0..sent.len() {
+            let frame = sent.get(index);
+            self.writer
+                .write(&mut self.text, frame.at, frame.id, frame.bytes)?;
         }
         Ok(())
     }
@@ -78,8 +84,12 @@ fn unwritten(alloc: Global, setup: &Setup) -> Result<Vec<ReplyLines>, AllocError
 }
 
 /// Adds the lines of these frames to those of the tester at this place, where they are wanted.
-pub fn add_at(lines: &mut Vec<ReplyLines>, place: usize, sent: &[Sent]) -> Result<(), AllocError>
-    ensures { OnOk result (WroteTo lines.old.items lines.new.items place sent.now) }
+pub fn add_at(
+    lines: &mut Vec<ReplyLines>,
+    place: usize,
+    sent: &SentFrames,
+) -> Result<(), AllocError>
+    ensures { OnOk result (WroteTo lines.old.items lines.new.items place sent.now.items) }
 {
     if place >= lines.len() {
         return Ok(());

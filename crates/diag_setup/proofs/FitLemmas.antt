@@ -11,7 +11,7 @@ use Rattle.diag_setup.specs.declared.raw.RawKeyRow.{RawKeyRow}
 use Rattle.diag_setup.specs.declared.raw.RawLevel.{RawLevel}
 use Rattle.diag_setup.specs.declared.raw.TemplateItem.{TemplateItem}
 use Rattle.diag_setup.specs.Rows.{is_between, has_length, has_key, have_one_length, is_rising}
-use Rattle.diag_setup.specs.Setup.{level_sub, seed_of, key_of, is_name_byte, is_can_id, is_id_by, is_own_id, functional_number, is_st_min, faults, is_in_range, times_are_in_range, link_is_in_range, server_is_in_range, testers_are_in_range, dids_are_in_range, dtcs_are_in_range, routines_are_in_range, levels_are_in_range, tester_is_in_range, did_is_in_range, dtc_is_in_range, routine_is_in_range, on_done_is_in_range, key_row_is_in_range, level_is_in_range, has_no_rows, is_known_level, did_levels_are_known, routine_level_is_known, IsSetup, did_id, dtc_code, routine_id, answers_are_in_range, answer_is_in_range, reply_is_in_range, enter_is_in_range, template_is_in_range, item_is_in_range, items_or_none, template_count, is_in_time, latest_answer_ms, answer_level_is_known, ignored_are_in_range}
+use Rattle.diag_setup.specs.Setup.{level_sub, seed_of, key_of, is_name_byte, is_can_id, is_id_by, is_own_id, is_st_min, is_tx_dl, faults, is_in_range, times_are_in_range, link_is_in_range, server_is_in_range, testers_are_in_range, dids_are_in_range, dtcs_are_in_range, routines_are_in_range, levels_are_in_range, tester_is_in_range, did_is_in_range, dtc_is_in_range, routine_is_in_range, on_done_is_in_range, key_row_is_in_range, level_is_in_range, has_no_rows, is_known_level, did_levels_are_known, routine_level_is_known, IsSetup, did_id, dtc_code, routine_id, answers_are_in_range, answer_is_in_range, reply_is_in_range, enter_is_in_range, template_is_in_range, item_is_in_range, items_or_none, template_count, is_in_time, latest_answer_ms, answer_level_is_known, ignored_are_in_range}
 use Rattle.diag_setup.specs.Fits.{IdFits, TesterFits, DidFits, DtcFits, OnDoneFits, RoutineFits, KeyRowFits, LevelFits, AnswerFits, NumbersFit}
 use Rattle.diag_setup.proofs.SetupLemmas.{NoneHold, none_hold}
 
@@ -39,13 +39,19 @@ and6 a b c d e f h =
     let front = and5 a b c d e last.0 in
     (front.0, front.1, front.2, front.3, front.4, last.1)
 
+and7 : (a b c d e f g : Bool) → (a && b && c && d && e && f && g) ≡ true
+    → (a ≡ true) × (b ≡ true) × (c ≡ true) × (d ≡ true) × (e ≡ true) × (f ≡ true) × (g ≡ true)
+and7 a b c d e f g h =
+    let last = and_parts (a && b && c && d && e && f) g h in
+    let front = and6 a b c d e f last.0 in
+    (front.0, front.1, front.2, front.3, front.4, front.5, last.1)
+
 and8 : (a b c d e f g i : Bool) → (a && b && c && d && e && f && g && i) ≡ true
     → (a ≡ true) × (b ≡ true) × (c ≡ true) × (d ≡ true) × (e ≡ true) × (f ≡ true) × (g ≡ true) × (i ≡ true)
 and8 a b c d e f g i h =
     let last = and_parts (a && b && c && d && e && f && g) i h in
-    let next = and_parts (a && b && c && d && e && f) g last.0 in
-    let front = and6 a b c d e f next.0 in
-    (front.0, front.1, front.2, front.3, front.4, front.5, next.1, last.1)
+    let front = and7 a b c d e f g last.0 in
+    (front.0, front.1, front.2, front.3, front.4, front.5, front.6, last.1)
 
 and9 : (a b c d e f g i j : Bool) → (a && b && c && d && e && f && g && i && j) ≡ true
     → (a ≡ true) × (b ≡ true) × (c ≡ true) × (d ≡ true) × (e ≡ true) × (f ≡ true) × (g ≡ true) × (i ≡ true) × (j ≡ true)
@@ -90,13 +96,21 @@ parts_of raw h =
     let none : NoneHold (faults raw) = none_hold (faults raw) h.0 in
     ranged_parts raw (not-false (is_in_range raw) none.0)
 
+abbrev LinkParts : RawSetup → Type 0
+LinkParts raw = (nat_le raw.block_size 0xFF ≡ true) × (is_st_min raw.st_min ≡ true) × (is_between 8 0xFFFF raw.max_request ≡ true)
+    × (nat_le raw.pad_byte 0xFF ≡ true) × (is_tx_dl raw.tx_dl ≡ true) × (nat_le raw.fd_flags 15 ≡ true) × (is_can_id raw.functional ≡ true)
+
+link_parts : (raw : RawSetup) → link_is_in_range raw ≡ true → LinkParts raw
+link_parts raw h =
+    and7 (nat_le raw.block_size 0xFF) (is_st_min raw.st_min) (is_between 8 0xFFFF raw.max_request) (nat_le raw.pad_byte 0xFF) (is_tx_dl raw.tx_dl)
+    (nat_le raw.fd_flags 15) (is_can_id raw.functional) h
+
 pub numbers_fit : (raw : RawSetup) → IsSetup raw → NumbersFit raw
 numbers_fit raw h =
     let parts = parts_of raw h in
     let times = and5 (nat_le raw.p2_ms 0xFFFF) (nat_le raw.p2_star_10ms 0xFFFF) (is_between 1 600000 raw.s3_ms) (is_between 1 60000 raw.n_bs_ms)
     (is_between 1 60000 raw.n_cr_ms) parts.0 in
-    let link = and5 (nat_le raw.block_size 0xFF) (is_st_min raw.st_min) (is_between 8 0xFFFF raw.max_request) (nat_le raw.pad_byte 0xFF)
-    (is_can_id raw.functional) parts.1 in
+    let link = link_parts raw parts.1 in
     let server = and3 (nat_le raw.availability 0xFF) (is_between 1 0xFF raw.attempts) (is_between 1 600000 raw.delay_ms) parts.2 in
     record {
       p2_ms = leb-true raw.p2_ms 0xFFFF times.0;
@@ -109,7 +123,9 @@ numbers_fit raw h =
       st_min = st_min-fits raw.st_min link.1;
       max_request = (between 8 0xFFFF raw.max_request link.2).1;
       pad_byte = leb-true raw.pad_byte 0xFF link.3;
-      functional = leb-true raw.functional 0x7FF link.4;
+      tx_dl = link.4;
+      fd_flags = leb-true raw.fd_flags 15 link.5;
+      functional = leb-true raw.functional 0x7FF link.6;
       availability = leb-true raw.availability 0xFF server.0;
       attempts_some = (between 1 0xFF raw.attempts server.1).0;
       attempts = (between 1 0xFF raw.attempts server.1).1;
@@ -172,10 +188,7 @@ ranged_testers raw h =
     each tester_is_in_range TesterFits tester-fits raw.testers (all_rows tester_is_in_range 8 raw.testers (ranged_parts raw h).3)
 
 pub ranged_functional : (raw : RawSetup) → is_in_range raw ≡ true → raw.functional ≤ 0x7FF
-ranged_functional raw h =
-    let link = and5 (nat_le raw.block_size 0xFF) (is_st_min raw.st_min) (is_between 8 0xFFFF raw.max_request) (nat_le raw.pad_byte 0xFF)
-    (is_can_id raw.functional) (ranged_parts raw h).1 in
-    leb-true raw.functional 0x7FF link.4
+ranged_functional raw h = leb-true raw.functional 0x7FF (link_parts raw (ranged_parts raw h).1).6
 
 dtc-fits : (row : RawDtc) → dtc_is_in_range row ≡ true → DtcFits row
 dtc-fits row h =

@@ -7,7 +7,9 @@ use Rattle.diag_setup.specs.declared.raw.TemplateItem.TheVariants as template
 use Rattle.diag_setup.specs.declared.fault.SetupFault.{SetupFault}
 use Rattle.diag_setup.specs.declared.fault.SetupFault.TheVariants.{Range, Empty, DuplicateId, UnknownCode, UnknownLevel}
 use Rattle.diag_can.specs.Identifier.{extended}
-use Rattle.diag_setup.specs.Setup.{checked, fault_of, ids_of}
+use Rattle.diag_pdu.specs.declared.length.DataLength.TheVariants.{Dl8, Dl12, Dl64}
+use Rattle.diag_setup.specs.declared.raw.RawSetup.{RawSetup}
+use Rattle.diag_setup.specs.Setup.{checked, fault_of, ids_of, link_of, flags_of, has_fd, known_ids}
 use Rattle.diag_setup.specs.ExampleSetup.{two_testers, tester, did, routine, level, with_answers, echo_row, slow_row, enter_row}
 
 abbrev tester_a : RawTester
@@ -99,6 +101,73 @@ own_functional_is_a_response = refl
 -- that of the setup is of nobody then
 functional_of_nobody : fault_of (record two_testers { functional = 0x7E8; testers = record tester_a { functional = Some 0x700 } ∷ [] }) ≡ None
 functional_of_nobody = refl
+
+-- ---- CAN FD
+
+-- B talks by CAN FD, and has a functional identifier of its own
+abbrev fd_tester : RawTester
+fd_tester = record tester_b { fd = true; functional = Some 0x700 }
+
+abbrev one_fd : RawSetup
+one_fd = record two_testers { testers = tester_a ∷ fd_tester ∷ [] }
+
+fd_is_well : fault_of one_fd ≡ None
+fd_is_well = refl
+
+framing_of_fd : (link_of one_fd 2).framing ≡ record { tx_dl = Dl64; pad = Some 0xCC; fill = 0xCC }
+framing_of_fd = refl
+
+framing_of_classic : (link_of one_fd 1).framing ≡ record { tx_dl = Dl8; pad = Some 0xCC; fill = 0xCC }
+framing_of_classic = refl
+
+-- frames of more than 8 bytes are filled all the same
+framing_without_pad : (link_of (record one_fd { tx_dl = 12; pad = false }) 2).framing ≡ record { tx_dl = Dl12; pad = None; fill = 0xCC }
+framing_without_pad = refl
+
+flags_of_fd : flags_of one_fd 2 ≡ Some 1
+flags_of_fd = refl
+
+flags_of_classic : flags_of one_fd 1 ≡ None
+flags_of_classic = refl
+
+fd_is_among : has_fd one_fd ≡ true
+fd_is_among = refl
+
+fd_is_not_among : has_fd two_testers ≡ false
+fd_is_not_among = refl
+
+read_of_fd : known_ids one_fd ≡ record { id = 0x7E1; fd = true } ∷ record { id = 0x7E9; fd = true } ∷ record { id = 0x700; fd = true } ∷ []
+read_of_fd = refl
+
+read_of_wide : known_ids (record two_testers { testers = tester_a ∷ wide tester_b 0x18DA10F1 0x18DAF110 ∷ [] })
+    ≡ record { id = extended 0x18DA10F1; fd = false } ∷ record { id = extended 0x18DAF110; fd = false }
+    ∷ record { id = extended 0x18DB33F1; fd = false } ∷ []
+read_of_wide = refl
+
+-- the functional identifier that both share
+fd_shares_functional : fault_of (record two_testers { testers = tester_a ∷ record tester_b { fd = true } ∷ [] }) ≡ Some DuplicateId
+fd_shares_functional = refl
+
+two_of_fd_share : fault_of (record two_testers { testers = record tester_a { fd = true } ∷ record tester_b { fd = true } ∷ [] }) ≡ None
+two_of_fd_share = refl
+
+fd_has_that_of_classic : fault_of (record two_testers { testers = record fd_tester { functional = Some 0x7DF } ∷ tester_a ∷ [] }) ≡ Some DuplicateId
+fd_has_that_of_classic = refl
+
+tx_dl_of_12 : fault_of (record two_testers { tx_dl = 12 }) ≡ None
+tx_dl_of_12 = refl
+
+tx_dl_of_10 : fault_of (record two_testers { tx_dl = 10 }) ≡ Some Range
+tx_dl_of_10 = refl
+
+tx_dl_of_7 : fault_of (record two_testers { tx_dl = 7 }) ≡ Some Range
+tx_dl_of_7 = refl
+
+flags_of_15 : fault_of (record two_testers { fd_flags = 15 }) ≡ None
+flags_of_15 = refl
+
+flags_of_16 : fault_of (record two_testers { fd_flags = 16 }) ≡ Some Range
+flags_of_16 = refl
 
 unknown_code : fault_of (record two_testers { routines = record routine { on_done = Some (record { code = 1; status = 0x2F }) } ∷ [] }) ≡ Some UnknownCode
 unknown_code = refl

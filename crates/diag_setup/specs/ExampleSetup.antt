@@ -14,8 +14,14 @@ use Rattle.diag_setup.specs.declared.raw.TemplateItem.{TemplateItem}
 use Rattle.diag_setup.specs.declared.raw.TemplateItem.TheVariants as template
 
 abbrev pub tester : List ℕ → ℕ → ℕ → RawTester
-tester name request response =
-    record { name = name; request = request; response = response; extended = false; functional = None }
+tester name request response = record {
+  name = name;
+  request = request;
+  response = response;
+  extended = false;
+  functional = None;
+  fd = false;
+}
 
 abbrev pub did : RawDid
 did = record {
@@ -63,6 +69,8 @@ two_testers = record {
   max_request = 4095;
   pad = true;
   pad_byte = 0xCC;
+  tx_dl = 64;
+  fd_flags = 1;
   availability = 0xFF;
   functional = 0x7DF;
   attempts = 3;

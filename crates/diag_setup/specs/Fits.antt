@@ -1,6 +1,7 @@
 -- What the rows of a setup without a fault keep to, as bounds.
-use Rattle.std.specs.Prelude.{ℕ, ◌≤◌, Bool, true, false, length, Option, Some, None}
+use Rattle.std.specs.Prelude.{ℕ, ◌≤◌, Bool, true, false, length, Option, Some, None, IsSome}
 use Rattle.std.specs.List.{All}
+use Rattle.diag_pdu.specs.Length.{length_of}
 use Rattle.diag_setup.specs.declared.raw.RawSetup.{RawSetup}
 use Rattle.diag_setup.specs.declared.raw.RawTester.{RawTester}
 use Rattle.diag_setup.specs.declared.raw.RawDid.{RawDid}
@@ -72,6 +73,8 @@ pub record NumbersFit (raw : RawSetup) : Type 0 where
   pub st_min : raw.st_min ≤ 0xFF
   pub max_request : raw.max_request ≤ 0xFFFF
   pub pad_byte : raw.pad_byte ≤ 0xFF
+  pub tx_dl : IsSome (length_of raw.tx_dl)
+  pub fd_flags : raw.fd_flags ≤ 15
   pub functional : raw.functional ≤ 0x7FF
   pub availability : raw.availability ≤ 0xFF
   pub s3_ms : raw.s3_ms ≤ 600000

@@ -1,9 +1,14 @@
 -- Which raw setups are refused, with which fault, what setup the others are, and what a setup tells.
-use Rattle.std.specs.Prelude.{◌≡◌, ◌==◌, ◌&&◌, ◌||◌, ◌%◌, ◌+◌, ◌-◌, ◌*◌, max, bytes_eq, ℕ, Bool, true, false, not, List, [], ◌∷◌, ◌++◌, length, Option, Some, None, is_some, Result, Ok, Err, if◌then◌else◌, nat_le, nat_lt, slice_get, unwrap_or}
+use Rattle.std.specs.Prelude.{◌≡◌, ◌==◌, ◌&&◌, ◌||◌, ◌%◌, ◌+◌, ◌-◌, ◌*◌, max, bytes_eq, ℕ, Bool, true, false, not, List, [], ◌∷◌, length, Option, Some, None, is_some, Result, Ok, Err, if◌then◌else◌, nat_le, nat_lt, slice_get, unwrap_or}
 use Rattle.std.specs.List.{list_all, list_any, flat_map, sum_by}
 use Rattle.diag_can.specs.Identifier.{extended}
-use Rattle.diag_can.specs.Line.{known_to}
+use Rattle.diag_can.specs.Line.{known_by}
 use Rattle.diag_can.specs.declared.frame.Ids.{Ids}
+use Rattle.diag_can.specs.declared.frame.KnownId.{KnownId}
+use Rattle.diag_pdu.specs.Length.{length_of}
+use Rattle.diag_pdu.specs.declared.framing.Framing.{Framing}
+use Rattle.diag_pdu.specs.declared.length.DataLength.{DataLength}
+use Rattle.diag_pdu.specs.declared.length.DataLength.TheVariants.{Dl8}
 use Rattle.diag_pdu.specs.declared.setup.LinkSetup.{LinkSetup}
 use Rattle.diag_setup.specs.declared.setup.ServerParameters.{ServerParameters}
 use Rattle.diag_setup.specs.Rows.{is_between, has_length, have_one_length, has_key, has_repeat, in_order, is_rising}
@@ -131,6 +136,10 @@ pattern_is_in_range pattern = has_length 1 64 pattern.items
 abbrev pub is_st_min : ℕ → Bool
 is_st_min st = nat_le st 127 || is_between 241 249 st
 
+-- a length that frames of CAN FD have, or that of the longest classic one
+abbrev pub is_tx_dl : ℕ → Bool
+is_tx_dl n = is_some (length_of n)
+
 abbrev pub times_are_in_range : RawSetup → Bool
 times_are_in_range raw =
     nat_le raw.p2_ms 0xFFFF && nat_le raw.p2_star_10ms 0xFFFF && is_between 1 600000 raw.s3_ms
@@ -139,7 +148,8 @@ times_are_in_range raw =
 abbrev pub link_is_in_range : RawSetup → Bool
 link_is_in_range raw =
     nat_le raw.block_size 0xFF && is_st_min raw.st_min && is_between 8 0xFFFF raw.max_request
-    && nat_le raw.pad_byte 0xFF && is_can_id raw.functional
+    && nat_le raw.pad_byte 0xFF && is_tx_dl raw.tx_dl && nat_le raw.fd_flags 15
+    && is_can_id raw.functional
 
 abbrev pub server_is_in_range : RawSetup → Bool
 server_is_in_range raw = nat_le raw.availability 0xFF && is_between 1 0xFF raw.attempts
@@ -227,10 +237,21 @@ functional_of shared tester = id_by tester.extended (functional_number shared te
 abbrev pub asks_by : List ℕ → ℕ → RawTester → Bool
 asks_by ids shared tester = has_key itself ids (functional_of shared tester)
 
--- two requests or responses have one identifier, or one of them has a functional one
+-- a tester talks by CAN FD and another one doesn't, and both have one functional identifier
+abbrev pub mixes_with : ℕ → RawTester → RawTester → Bool
+mixes_with shared tester other =
+    tester.fd && not other.fd && functional_of shared tester == functional_of shared other
+
+-- the same of a tester and any of these
+abbrev pub mixes_among : List RawTester → ℕ → RawTester → Bool
+mixes_among others shared tester = list_any (mixes_with shared tester) others
+
+-- two requests or responses have one identifier, or one of them has a functional one, or a tester that talks by CAN FD has the
+-- functional one of a classic tester
 abbrev pub has_repeated_id : List RawTester → ℕ → Bool
 has_repeated_id testers shared =
     has_repeat itself (can_ids testers) || list_any (asks_by (can_ids testers) shared) testers
+    || list_any (mixes_among testers shared) testers
 
 -- DuplicateId: two testers of one name, two equal identifiers, or two rows of one key
 abbrev pub has_duplicates : RawSetup → Bool
@@ -320,7 +341,14 @@ who_at setup i = if nat_lt i (length setup.testers) then Some (i + 1) else None
 
 -- what stands for the tester of a number that has none
 abbrev pub nobody : RawTester
-nobody = record { name = []; request = 0; response = 0; extended = false; functional = None }
+nobody = record {
+  name = [];
+  request = 0;
+  response = 0;
+  extended = false;
+  functional = None;
+  fd = false;
+}
 
 -- the tester of a number from 1
 abbrev pub tester_of : RawSetup → ℕ → RawTester
@@ -340,13 +368,27 @@ link_ids shared tester = record {
 abbrev pub ids_of : RawSetup → ℕ → Ids
 ids_of setup who = link_ids setup.functional (tester_of setup who)
 
--- the identifiers of 29 bits of a tester's link
-abbrev pub wide_ids : ℕ → RawTester → List ℕ
-wide_ids shared tester = if tester.extended then known_to (link_ids shared tester) else []
+-- the identifiers of a tester's link of which lines are read that are passed over otherwise: those of 29 bits, and of a tester
+-- that talks by CAN FD all
+abbrev pub read_ids : ℕ → RawTester → List KnownId
+read_ids shared tester =
+    if tester.extended || tester.fd then known_by tester.fd (link_ids shared tester) else []
 
--- those that are read in a recording of the whole bus
-abbrev pub known_ids : RawSetup → List ℕ
-known_ids setup = flat_map (wide_ids setup.functional) setup.testers
+-- those of all testers, in a recording of the whole bus
+abbrev pub known_ids : RawSetup → List KnownId
+known_ids setup = flat_map (read_ids setup.functional) setup.testers
+
+-- the greatest length of the frames to a tester, where the unit has this one for those that talk by CAN FD
+abbrev pub tx_dl_of : ℕ → RawTester → DataLength
+tx_dl_of most tester = if tester.fd then unwrap_or (length_of most) Dl8 else Dl8
+
+-- how the frames to a tester are made: those of more than 8 bytes are filled whether the others are padded or not
+abbrev pub framing_of : RawSetup → RawTester → Framing
+framing_of setup tester = record {
+  tx_dl = tx_dl_of setup.tx_dl tester;
+  pad = if setup.pad then Some setup.pad_byte else None;
+  fill = setup.pad_byte;
+}
 
 -- the settings of a tester's link
 abbrev pub link_of : RawSetup → ℕ → LinkSetup
@@ -355,10 +397,25 @@ link_of setup who = record {
   block_size = setup.block_size;
   st_min = setup.st_min;
   max_request = setup.max_request;
-  pad = if setup.pad then Some setup.pad_byte else None;
+  framing = framing_of setup (tester_of setup who);
   n_bs = setup.n_bs_ms;
   n_cr = setup.n_cr_ms;
 }
+
+-- whether a tester and the unit talk by CAN FD
+abbrev pub is_fd_of : RawSetup → ℕ → Bool
+is_fd_of setup who = (tester_of setup who).fd
+
+-- the flags that stand in the lines of what is sent to a tester; a classic frame has none
+abbrev pub flags_of : RawSetup → ℕ → Option ℕ
+flags_of setup who = if is_fd_of setup who then Some setup.fd_flags else None
+
+abbrev pub talks_by_fd : RawTester → Bool
+talks_by_fd tester = tester.fd
+
+-- whether any tester and the unit talk by CAN FD
+abbrev pub has_fd : RawSetup → Bool
+has_fd setup = list_any talks_by_fd setup.testers
 
 -- the values that the services answer with
 abbrev pub values_of : RawSetup → ServerParameters

@@ -4,7 +4,7 @@ ghost use Rattle.std.specs.Prelude.{◌≡◌, ◌==◌, ◌≤◌, ◌&&◌, Bo
 ghost use Rattle.std.specs.List.{All, list_all, list_any};
 ghost use Rattle.std.specs.Bool.{OnTrue};
 ghost use Rattle.diag_setup.specs.Rows.{is_between, have_one_length};
-ghost use Rattle.diag_setup.specs.Setup.{can_ids, has_name, has_repeated_name, has_no_rows, is_known_level, done_code_is_known, did_levels_are_known, routine_level_is_known, answer_level_is_known, lacks_rows, has_duplicates, names_unknown_code, names_unknown_level, key_of, seed_of, fault_of, is_in_range, times_are_in_range, link_is_in_range, server_is_in_range, tester_is_in_range, did_is_in_range, dtc_is_in_range, routine_is_in_range, key_row_is_in_range, level_is_in_range, is_st_min, is_name_byte, is_can_id, is_wide_id, is_id_by, is_own_id, id_by, functional_number, functional_of, asks_by, has_repeated_id, pattern_is_in_range};
+ghost use Rattle.diag_setup.specs.Setup.{can_ids, has_name, has_repeated_name, has_no_rows, is_known_level, done_code_is_known, did_levels_are_known, routine_level_is_known, answer_level_is_known, lacks_rows, has_duplicates, names_unknown_code, names_unknown_level, key_of, seed_of, fault_of, is_in_range, times_are_in_range, link_is_in_range, server_is_in_range, tester_is_in_range, did_is_in_range, dtc_is_in_range, routine_is_in_range, key_row_is_in_range, level_is_in_range, is_st_min, is_tx_dl, is_name_byte, is_can_id, is_wide_id, is_id_by, is_own_id, id_by, functional_number, functional_of, asks_by, mixes_with, mixes_among, has_repeated_id, pattern_is_in_range};
 ghost use Rattle.diag_setup.specs.Fits.{IdFits, TesterFits};
 
 use crate::fault::SetupFault;
@@ -13,6 +13,7 @@ use crate::raw::{
     RawAnswer, RawDid, RawDtc, RawKeyRow, RawLevel, RawPattern, RawRoutine, RawSetup, RawTester,
 };
 use arrayvec::ArrayVec;
+use diag_pdu::DataLength;
 
 /// The most testers of a setup.
 const MOST_TESTERS: usize = 8;
@@ -53,6 +54,8 @@ impl RawSetup {
             && is_st_min(self.st_min)
             && is_between(8, 0xFFFF, self.max_request)
             && self.pad_byte <= 0xFF
+            && is_tx_dl(self.tx_dl)
+            && self.fd_flags <= 15
             && is_can_id(self.functional)
     }
 
@@ -221,6 +224,13 @@ fn is_st_min(st: u32) -> bool
     st <= 127 || is_between(241, 249, st)
 }
 
+/// Whether frames of segmented messages may have so many bytes.
+fn is_tx_dl(bytes: u32) -> bool
+    ensures { result ≡ is_tx_dl bytes }
+{
+    DataLength::of(bytes as usize).is_some()
+}
+
 fn is_wide_id(id: u32) -> bool
     ensures { result ≡ is_wide_id id }
 {
@@ -302,17 +312,53 @@ impl RawTester {
         }
     }
 
+    /// Its functional identifier, among those of both kinds.
+    fn functional_id(&self, shared: u32) -> u32
+        requires fits { TesterFits self.now }
+        requires shared { shared ≤ 0x7FF }
+        ensures { result ≡ functional_of shared self.now }
+    {
+        id_by(self.extended, self.functional_number(shared))
+    }
+
     /// Whether its functional identifier is one of these.
     fn asks_by(&self, ids: &[u32], shared: u32) -> bool
         requires fits { TesterFits self.now }
         requires shared { shared ≤ 0x7FF }
         ensures { result ≡ asks_by ids.now shared self.now }
     {
-        has_key(ids, id_by(self.extended, self.functional_number(shared)))
+        has_key(ids, self.functional_id(shared))
+    }
+
+    /// Whether it talks by CAN FD and another one doesn't, and both have one functional identifier.
+    fn mixes_with(&self, other: &RawTester, shared: u32) -> bool
+        requires fits { TesterFits self.now }
+        requires other { TesterFits other.now }
+        requires shared { shared ≤ 0x7FF }
+        ensures { result ≡ mixes_with shared self.now other.now }
+    {
+        self.fd && !other.fd && self.functional_id(shared) == other.functional_id(shared)
+    }
+
+    /// The same of any of these.
+    fn mixes_among(&self, others: &[RawTester], shared: u32) -> bool
+        requires fits { TesterFits self.now }
+        requires others { All TesterFits others.now }
+        requires shared { shared ≤ 0x7FF }
+        ensures { result ≡ mixes_among others.now shared self.now }
+    {
+        let mut rest = others;
+        while let [first, tail @ ..] = rest {
+            if self.mixes_with(first, shared) {
+                return true;
+            }
+            rest = tail;
+        }
+        false
     }
 }
 
-/// The same of any of these testers.
+/// Whether the functional identifier of any of these testers is one of these.
 fn any_asks_by(ids: &[u32], shared: u32, testers: &[RawTester]) -> bool
     requires fit { All TesterFits testers.now }
     requires shared { shared ≤ 0x7FF }
@@ -328,6 +374,22 @@ fn any_asks_by(ids: &[u32], shared: u32, testers: &[RawTester]) -> bool
     false
 }
 
+/// Whether a tester that talks by CAN FD has the functional identifier of another that doesn't.
+fn any_mixes(testers: &[RawTester], shared: u32) -> bool
+    requires fit { All TesterFits testers.now }
+    requires shared { shared ≤ 0x7FF }
+    ensures { result ≡ list_any (mixes_among testers.now shared) testers.now }
+{
+    let mut rest = testers;
+    while let [first, tail @ ..] = rest {
+        if first.mixes_among(testers, shared) {
+            return true;
+        }
+        rest = tail;
+    }
+    false
+}
+
 /// Whether an identifier has two uses.
 fn has_repeated_id(testers: &[RawTester], shared: u32) -> bool
     requires few { length testers.now ≤ 8 }
@@ -336,7 +398,9 @@ fn has_repeated_id(testers: &[RawTester], shared: u32) -> bool
     ensures { result ≡ has_repeated_id testers.now shared }
 {
     let ids = can_ids(testers);
-    has_repeat(ids.as_slice()) || any_asks_by(ids.as_slice(), shared, testers)
+    has_repeat(ids.as_slice())
+        || any_asks_by(ids.as_slice(), shared, testers)
+        || any_mixes(testers, shared)
 }
 
 fn has_name(testers: &[RawTester], name: &[u8]) -> bool

@@ -26,8 +26,12 @@ pub struct RawSetup {
     pub max_request: u32,
     /// Whether frames are padded to 8 bytes.
     pub pad: bool,
-    /// The byte that pads them, 0 to 255.
+    /// The byte that pads them, 0 to 255, and that fills longer ones.
     pub pad_byte: u32,
+    /// TX_DL of the frames to testers that talk by CAN FD: 8, 12, 16, 20, 24, 32, 48 or 64 bytes (ISO 15765-2:2016, 9.5).
+    pub tx_dl: u32,
+    /// The flags in the lines of these frames, 0 to 15.
+    pub fd_flags: u32,
     /// DTCStatusAvailabilityMask, 0 to 255 (ISO 14229-1:2013, 11.3).
     pub availability: u32,
     /// The CAN identifier of functional requests, 0 to 0x7FF, of the testers of 11 bits that have none of their own.
@@ -36,7 +40,8 @@ pub struct RawSetup {
     pub attempts: u32,
     /// The delay after them, in milliseconds, 1 to 600000.
     pub delay_ms: u32,
-    /// 1 to 8 testers, no two of one name; no two CAN identifiers of the setup are equal.
+    /// 1 to 8 testers, no two of one name. No two CAN identifiers of the setup are equal, but for the functional ones of testers
+    /// that all talk by CAN FD, or all by classic CAN.
     pub testers: Items<RawTester>,
     /// Up to 1024 data identifiers, no two equal.
     pub dids: Items<RawDid>,
@@ -66,6 +71,8 @@ pub struct RawTester {
     /// The CAN identifier of its functional requests, of as many bits; where it is left out, 0x18DB33F1 of 29 bits (ISO
     /// 15765-4), or that of 11 bits of the setup.
     pub functional: Option<u32>,
+    /// Whether it and the unit talk by CAN FD.
+    pub fd: bool,
 }
 
 /// A data identifier with its first value.

@@ -1,8 +1,9 @@
 //! A setup that passed all tests.
 
-ghost use Rattle.std.specs.Prelude.{IsTrue, IfOk, ◌≡◌, ◌≤◌, ◌-◌, length, Some, slice_get};
+ghost use Rattle.std.specs.Prelude.{IsTrue, IsSome, IfSome, IfOk, ◌≡◌, ◌≤◌, ◌-◌, length, Some, slice_get};
 ghost use Rattle.std.specs.List.{All, flat_map};
-ghost use Rattle.diag_setup.specs.Setup.{IsSetup, checked, did_id, dtc_code, routine_id, level_sub, who_at, name_of, ids_of, link_ids, known_ids, wide_ids, link_of, values_of, id_by};
+ghost use Rattle.diag_pdu.specs.Length.{length_of};
+ghost use Rattle.diag_setup.specs.Setup.{IsSetup, checked, did_id, dtc_code, routine_id, level_sub, who_at, name_of, ids_of, link_ids, known_ids, read_ids, tester_of, tx_dl_of, framing_of, link_of, is_fd_of, flags_of, has_fd, values_of, id_by};
 ghost use Rattle.diag_setup.specs.Rows.{is_rising};
 ghost use Rattle.diag_setup.specs.Fits.{IdFits, TesterFits, DidFits, DtcFits, RoutineFits, LevelFits, AnswerFits, NumbersFit};
 
@@ -11,8 +12,8 @@ use crate::raw::{
     RawAnswer, RawDid, RawDtc, RawLevel, RawPattern, RawRoutine, RawSetup, RawTester,
 };
 use crate::tester_id::TesterId;
-use diag_can::{CanId, Ids, TickCount};
-use diag_pdu::LinkSetup;
+use diag_can::{CanId, Ids, KnownId, TickCount};
+use diag_pdu::{DataLength, Framing, LinkSetup};
 use std::alloc::{AllocError, Global};
 use std::marker::Model;
 
@@ -106,9 +107,9 @@ impl Setup {
         self.tester(who).ids(self.raw().functional)
     }
 
-    /// The identifiers of 29 bits that the testers' links have: in a recording of the whole bus a line with another one is
-    /// passed over.
-    pub fn known_ids(&self, alloc: Global) -> Result<Vec<CanId>, AllocError>
+    /// The identifiers of the testers' links of which lines are read that are passed over otherwise, in a recording of the whole
+    /// bus: those of 29 bits, and all of testers that talk by CAN FD.
+    pub fn known_ids(&self, alloc: Global) -> Result<Vec<KnownId>, AllocError>
         ensures { IfOk result (λ known. known.items ≡ known_ids self.now) }
     {
         let shared = self.raw().functional;
@@ -134,14 +135,54 @@ impl Setup {
             block_size: raw.block_size as u8,
             st_min: raw.st_min as u8,
             max_request: raw.max_request as u16,
-            pad: if raw.pad {
-                Some(raw.pad_byte as u8)
-            } else {
-                None
-            },
+            framing: self.framing(who),
             n_bs: tick_count(raw.n_bs_ms),
             n_cr: tick_count(raw.n_cr_ms),
         }
+    }
+
+    /// How the frames to a tester are made.
+    fn framing(&self, who: TesterId) -> Framing
+        requires { who ≤ length self.now.testers }
+        ensures { result ≡ framing_of self.now (tester_of self.now who) }
+    {
+        let tx_dl = self.tester(who).tx_dl(self.raw().tx_dl);
+        let raw = self.raw();
+        let pad_byte = raw.pad_byte as u8;
+        Framing {
+            tx_dl,
+            pad: if raw.pad { Some(pad_byte) } else { None },
+            fill: pad_byte,
+        }
+    }
+
+    /// Whether a tester and the unit talk by CAN FD.
+    pub fn is_fd(&self, who: TesterId) -> bool
+        requires { who ≤ length self.now.testers }
+        ensures { result ≡ is_fd_of self.now who }
+    {
+        self.tester(who).fd
+    }
+
+    /// The flags in the lines of what is sent to a tester, a hex digit; None where it is classic CAN.
+    pub fn flags(&self, who: TesterId) -> Option<u8>
+        requires { who ≤ length self.now.testers }
+        ensures same { result ≡ flags_of self.now who }
+        ensures fits { IfSome result (λ flags. flags ≤ 15) }
+    {
+        if self.is_fd(who) {
+            Some(self.raw().fd_flags as u8)
+        } else {
+            None
+        }
+    }
+
+    /// Whether any tester and the unit talk by CAN FD.
+    pub fn has_fd(&self) -> bool
+        ensures { result ≡ has_fd self.now }
+    {
+        let testers = self.raw.testers.as_slice();
+        testers.iter().any(|tester| tester.fd)
     }
 
     /// The values that the services answer with.
@@ -251,18 +292,30 @@ impl RawTester {
             functional: can_id(self.extended, self.functional_number(shared)),
         }
     }
+
+    /// TX_DL of the frames to it, where the unit has this one for testers that talk by CAN FD.
+    fn tx_dl(&self, most: u32) -> DataLength
+        requires { IsSome (length_of most) }
+        ensures { result ≡ tx_dl_of most self.now }
+    {
+        if self.fd {
+            data_length(most)
+        } else {
+            DataLength::Dl8
+        }
+    }
 }
 
-/// The identifiers of 29 bits of these testers' links.
-fn known_ids(alloc: Global, testers: &[RawTester], shared: u32) -> Result<Vec<CanId>, AllocError>
+/// The identifiers of these testers' links of which lines are read that are passed over otherwise.
+fn known_ids(alloc: Global, testers: &[RawTester], shared: u32) -> Result<Vec<KnownId>, AllocError>
     requires fit { All TesterFits testers.now }
     requires shared { shared ≤ 0x7FF }
-    ensures { IfOk result (λ known. known.items ≡ flat_map (wide_ids shared) testers.now) }
+    ensures { IfOk result (λ known. known.items ≡ flat_map (read_ids shared) testers.now) }
 {
     let mut known = Vec::new(alloc);
     for tester in testers {
-        if tester.extended {
-            known.extend_from_slice(&tester.ids(shared).all())?;
+        if tester.extended || tester.fd {
+            known.extend_from_slice(&tester.ids(shared).known(tester.fd))?;
         }
     }
     Ok(known)
@@ -280,6 +333,17 @@ fn can_id(wide: bool, number: u32) -> CanId
     };
     let Some(id) = id else { unreachable!() };
     id
+}
+
+/// The length of so many bytes.
+fn data_length(bytes: u32) -> DataLength
+    requires { IsSome (length_of bytes) }
+    ensures { length_of bytes ≡ Some result }
+{
+    let Some(length) = DataLength::of(bytes as usize) else {
+        unreachable!()
+    };
+    length
 }
 
 /// That many ticks.

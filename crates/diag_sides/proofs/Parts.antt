@@ -1,7 +1,10 @@
 -- What fits of the part of a Consecutive.
 use Rattle.std.proofs.Common.{◌≡◌, ℕ, ◌+◌, ◌-◌, ◌≤◌, List, ◌++◌, length, take, sym, ◌∙◌, ap, arith, length-append, ◌<◌}
 use Rattle.std.proofs.lemmas.List.{take_all, length-take-le}
+use Rattle.diag_pdu.specs.declared.length.DataLength.{DataLength}
+use Rattle.diag_pdu.specs.Length.{in_bytes}
 use Rattle.diag_pdu.specs.Cut.{consecutive_count}
+use Rattle.diag_pdu.proofs.Lengths.{gone-more, count-inside}
 use Rattle.diag_sides.specs.Receiver.{kept_bytes}
 use Rattle.std.proofs.Math.Seq.{take-append-add}
 
@@ -15,8 +18,10 @@ set-over len m part kept size h fits =
     rw same (sym (take-append-add (take kept m) part (len - kept)) ∙ ap (λ (n : ℕ). take n (take kept m ++ part)) size)
 
 -- the next part, which isn't the last, fits whole
-pub set-next : (len count : ℕ) (bytes part : List ℕ) → length bytes ≡ kept_bytes len count → count + 1 < consecutive_count len → length part ≤ 7
-    → bytes ++ take 7 part ≡ take len (bytes ++ part)
-set-next len count bytes part kept more few =
+pub set-next : (rx_dl : DataLength) (len count : ℕ) (bytes part : List ℕ) → length bytes ≡ kept_bytes rx_dl len count → count + 1 < consecutive_count rx_dl len
+    → length part ≡ in_bytes rx_dl - 1 → bytes ++ part ≡ take len (bytes ++ part)
+set-next rx_dl len count bytes part kept more full =
     let size = length-append bytes part in
-    rw (take_all 7 part few) (sym (take_all len (bytes ++ part) (omega arith)))
+    let next = gone-more rx_dl len count in
+    let inside = count-inside rx_dl len count more in
+    sym (take_all len (bytes ++ part) (omega (arith, size, next, inside, kept, full)))

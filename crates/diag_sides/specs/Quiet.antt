@@ -28,7 +28,7 @@ sender_quiet (Some c) = phase_quiet c.phase
 abbrev pub reception_later : ℕ → Option Receiving → Option Receiving
 reception_later n None = None
 reception_later n (Some p) =
-    Some (record { len = p.len; count = p.count; bytes = p.bytes; silence = p.silence + n })
+    Some (record { len = p.len; rx_dl = p.rx_dl; count = p.count; bytes = p.bytes; silence = p.silence + n })
 
 abbrev pub phase_later : ℕ → Phase → Phase
 phase_later n (AwaitsFlow ticks) = AwaitsFlow (ticks - n)

@@ -2,6 +2,8 @@
 -- kept once that has gone.
 use Rattle.std.specs.Prelude.{◌≡◌, ◌<◌, ◌≤◌, ℕ, zero, suc, ◌+◌, ◌-◌, ◌==◌, nat_le, if◌then◌else◌, List, [], ◌∷◌, ◌++◌, length, drop, slice_get, Option, Some, None}
 use Rattle.diag_pdu.specs.declared.setup.LinkSetup.{LinkSetup}
+use Rattle.diag_pdu.specs.declared.framing.Framing.{Framing}
+use Rattle.diag_pdu.specs.declared.length.DataLength.{DataLength}
 use Rattle.diag_sides.specs.declared.sending.Phase.{Phase}
 use Rattle.diag_sides.specs.declared.sending.Phase.TheVariants.{AwaitsFlow, InBlock}
 use Rattle.diag_sides.specs.declared.sending.Sending.{Sending}
@@ -21,7 +23,7 @@ pub record Settled : Type 0 where
   pub left : SenderState
 
 abbrev pub frame_count : LinkSetup → List ℕ → ℕ
-frame_count s P = length (cut P s.pad)
+frame_count s P = length (cut s.framing P)
 
 -- the frames of the current message that have not gone
 abbrev pub current_left : LinkSetup → Option Sending → ℕ
@@ -57,11 +59,11 @@ begun_sending s P = record { message = P; next = 0; due = 1; phase = AwaitsFlow 
 -- the sender is free: the first of these replies begins, and after one of a single frame the next
 abbrev pub started : LinkSetup → List (List ℕ) → Settled
 started s [] = at_rest None []
-started s (P ∷ W) = once_gone 1 (cut P s.pad) (begun_sending s P) W (started s W)
+started s (P ∷ W) = once_gone 1 (cut s.framing P) (begun_sending s P) W (started s W)
 
 abbrev pub settled_in : LinkSetup → Option Sending → List (List ℕ) → Settled
 settled_in s None W = started s W
-settled_in s (Some c) W = once_gone c.due (drop c.next (cut c.message s.pad)) c W (started s W)
+settled_in s (Some c) W = once_gone c.due (drop c.next (cut s.framing c.message)) c W (started s W)
 
 abbrev pub settled : LinkSetup → SenderState → Settled
 settled s sender = settled_in s sender.current sender.waiting
@@ -96,7 +98,7 @@ block_fields s c b gap =
 
 abbrev pub decided_fields : LinkSetup → Sending → Decision → Option Sending
 decided_fields s c (Go block gap) =
-    Some (block_fields s c (block_size block (frames_of c.message - c.next)) gap)
+    Some (block_fields s c (block_size block (frames_of s.framing.tx_dl c.message - c.next)) gap)
 decided_fields s c Wait = Some (in_phase c (AwaitsFlow s.n_bs))
 decided_fields s c GiveUp = None
 
@@ -120,26 +122,27 @@ replied s P now = replied_in s P now.due now.left.current now.left.waiting
 abbrev pub kept : List ℕ → ℕ → Phase → Sending
 kept P gone phase = record { message = P; next = gone; due = 0; phase = phase }
 
--- what the sender has in memory: what it keeps, and the replies for which there is room
+-- what the sender has in memory: what it keeps, the replies for which there is room, and how it makes its frames
 pub record SenderFields : Type 0 where
   pub current : Option Sending
   pub waiting : List (List ℕ)
   pub room : ℕ
+  pub framing : Framing
 
--- some frame is left, and no more are due than are left
-abbrev pub IsSound : Sending → Type 0
-IsSound c = (c.next < frames_of c.message) × (c.next + c.due ≤ frames_of c.message)
+-- some frame of that length is left, and no more are due than are left
+abbrev pub IsSound : DataLength → Sending → Type 0
+IsSound d c = (c.next < frames_of d c.message) × (c.next + c.due ≤ frames_of d c.message)
 
 -- the next frame is gone; after the last there is no message any more
-abbrev pub one_gone : Sending → Option Sending
-one_gone c = if c.next + 1 == frames_of c.message then None else Some (one_on c)
+abbrev pub one_gone : DataLength → Sending → Option Sending
+one_gone d c = if c.next + 1 == frames_of d c.message then None else Some (one_on c)
 
 -- the sender goes on from this message
 abbrev pub goes_on_from : LinkSetup → Sending → List (List ℕ) → SenderFields → List ℕ → Type 0
 goes_on_from s c W after frame =
     (0 < c.due)
-    × ((slice_get (cut c.message s.pad) c.next ≡ Some frame)
-    × ((after.current ≡ one_gone c) × (after.waiting ≡ W)))
+    × ((slice_get (cut s.framing c.message) c.next ≡ Some frame)
+    × ((after.current ≡ one_gone s.framing.tx_dl c) × (after.waiting ≡ W)))
 
 -- the message and the replies that wait, where the first of these begins if there is no message
 abbrev pub IsNext : LinkSetup → Option Sending → List (List ℕ) → SenderFields → List ℕ → Type 0
@@ -151,6 +154,6 @@ abbrev pub IsNextFrame : LinkSetup → SenderFields → SenderFields → List �
 IsNextFrame s before after frame = IsNext s before.current before.waiting after frame
 
 -- the frames of the message in memory that have not gone
-abbrev pub fields_left : Option Sending → ℕ
-fields_left None = 0
-fields_left (Some c) = frames_of c.message - c.next
+abbrev pub fields_left : DataLength → Option Sending → ℕ
+fields_left d None = 0
+fields_left d (Some c) = frames_of d c.message - c.next

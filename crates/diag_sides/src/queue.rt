@@ -23,7 +23,7 @@ ghost use Rattle.diag_pdu.specs.Cut.{frames_of};
 ghost use Rattle.diag_sides.specs.Queue.{most_waiting};
 ghost use Rattle.diag_sides.specs.Sender.{started};
 
-use diag_pdu::{Message, frames_of};
+use diag_pdu::{DataLength, Message, frames_of, single_most};
 use std::alloc::{AllocError, Global};
 use std::collections::VecDeque;
 use std::marker::Model;
@@ -35,6 +35,8 @@ const MOST_WAITING: usize = 1 << 40;
 #[derive(Drop)]
 pub(crate) struct Queue {
     replies: VecDeque<Message>,
+    /// How long their frames are.
+    tx_dl: DataLength,
     /// How many frames the replies have.
     frames: u64,
 }
@@ -49,22 +51,25 @@ impl Model for Queue {
 
     ghost view = { λ a. record {
       replies = a.replies.items;
+      tx_dl = a.tx_dl;
       room = min (deque_capacity a.replies) most_waiting - deque_len a.replies;
     } };
 
     ghost invariant = { λ a.
-        (a.frames ≡ sum_by frames_of a.replies.items)
-        × All (λ P. frames_of P ≤ 10000) a.replies.items
+        (a.frames ≡ sum_by (frames_of a.tx_dl) a.replies.items)
+        × All (λ P. frames_of a.tx_dl P ≤ 10000) a.replies.items
         × (length a.replies.items ≤ most_waiting) };
 }
 
 impl Queue {
     /// No replies.
-    pub(crate) fn new(alloc: Global) -> Queue
-        ensures { result.replies ≡ [] }
+    pub(crate) fn new(alloc: Global, tx_dl: DataLength) -> Queue
+        ensures none { result.replies ≡ [] }
+        ensures tx_dl { result.tx_dl ≡ tx_dl }
     {
         Queue {
             replies: VecDeque::new(alloc),
+            tx_dl,
             frames: 0,
         }
     }
@@ -76,6 +81,7 @@ impl Queue {
         ensures err { OnErr result (self.old.room ≡ 0) }
         ensures kept { self.old.room ≤ self.new.room }
         ensures same { self.new.replies ≡ self.old.replies }
+        ensures tx_dl { self.new.tx_dl ≡ self.old.tx_dl }
     {
         if self.replies.len() < self.replies.capacity().min(MOST_WAITING) {
             return Ok(());
@@ -89,6 +95,7 @@ impl Queue {
         ensures ok { OnOk result (0 < self.new.room) }
         ensures kept { self.old.room ≤ self.new.room }
         ensures same { self.new.replies ≡ self.old.replies }
+        ensures tx_dl { self.new.tx_dl ≡ self.old.tx_dl }
     {
         if self.replies.len() >= MOST_WAITING {
             return Err(AllocError);
@@ -102,6 +109,7 @@ impl Queue {
         ensures err { OnErr result (self.old.room < count) }
         ensures kept { self.old.room ≤ self.new.room }
         ensures same { self.new.replies ≡ self.old.replies }
+        ensures tx_dl { self.new.tx_dl ≡ self.old.tx_dl }
     {
         let len = self.replies.len();
         if count
@@ -124,8 +132,9 @@ impl Queue {
         requires room { 0 < self.old.room }
         ensures added { self.new.replies ≡ self.old.replies ++ message ∷ [] }
         ensures room { self.old.room ≤ self.new.room + 1 }
+        ensures tx_dl { self.new.tx_dl ≡ self.old.tx_dl }
     {
-        let frames = frames_of(&message);
+        let frames = frames_of(self.tx_dl, &message);
         self.replies.push_back_reserved(message);
         self.frames += u64::from(frames);
     }
@@ -135,9 +144,10 @@ impl Queue {
         ensures some { IfSome result (λ message. self.old.replies ≡ message ∷ self.new.replies) }
         ensures none { IfNone result ((self.old.replies ≡ []) × (self.new ≡ self.old)) }
         ensures room { self.old.room ≤ self.new.room }
+        ensures tx_dl { self.new.tx_dl ≡ self.old.tx_dl }
     {
         let message = self.replies.pop_front()?;
-        self.frames -= u64::from(frames_of(&message));
+        self.frames -= u64::from(frames_of(self.tx_dl, &message));
         Some(message)
     }
 
@@ -160,11 +170,13 @@ impl Queue {
     /// How many still wait where the first begins, and after one of a single frame the next. It looks at each reply up to
     /// the first longer one.
     pub(crate) fn still_waiting(&self) -> usize
-        ensures { (s : ALinkSetup) → result ≡ length (started s self.now.replies).left.waiting }
+        ensures { (s : ALinkSetup) → s.framing.tx_dl ≡ self.now.tx_dl
+            → result ≡ length (started s self.now.replies).left.waiting }
     {
         let len = self.replies.len();
+        let most = usize::from(single_most(self.tx_dl));
         for first in 0..len {
-            if frames_of(&self.replies[first]) > 1 {
+            if self.replies[first].bytes().len() > most {
                 return len - first - 1;
             }
         }
@@ -174,7 +186,7 @@ impl Queue {
     /// How many frames the replies have.
     #[inline(always)]
     pub(crate) fn frames(&self) -> u64
-        ensures count { result ≡ sum_by frames_of self.now.replies }
+        ensures count { result ≡ sum_by (frames_of self.now.tx_dl) self.now.replies }
         ensures few { result ≤ 10000 * most_waiting }
     {
         self.frames

@@ -1,18 +1,19 @@
 //! The receiving side of a link: messages of one frame and of several (ISO 15765-2:2016, 9.2, 9.3, 9.6.4 and 9.8.3).
 
-ghost use Rattle.std.specs.Prelude.{◌≡◌, ◌≤◌, ◌<◌, ◌+◌, ◌%◌, ◌++◌, [], false, length, min, Some, None, take, vec_capacity, OnOk, IfOk, IfSome, IfNone, IsSome, option_and_then, option_copied, is_some, if◌then◌else◌, ◌&&◌, ◌==◌, nat_lt, IsTrue, IsFalse};
+ghost use Rattle.std.specs.Prelude.{◌≡◌, ◌≤◌, ◌<◌, ◌+◌, ◌-◌, ◌%◌, ◌++◌, [], false, length, min, Some, None, take, vec_capacity, OnOk, IfOk, IfSome, IfNone, IsSome, option_and_then, option_copied, is_some, if◌then◌else◌, ◌&&◌, ◌==◌, nat_lt, IsTrue, IsFalse};
 ghost use Rattle.diag_pdu.specs.declared.setup.LinkSetup.{LinkSetup as ALinkSetup};
 ghost use Rattle.diag_sides.specs.Quiet.{reception_quiet, reception_later};
 ghost use Rattle.diag_pdu.specs.Cut.{head_size, consecutive_count};
+ghost use Rattle.diag_pdu.specs.Length.{in_bytes, single_most};
 ghost use Rattle.diag_sides.specs.PartialBytes.{IsHeld};
 ghost use Rattle.diag_sides.specs.declared.receiver.PartialBytes.{PartialBytes};
 ghost use Rattle.diag_sides.specs.Receiver.{ask_of, kept_bytes, begun_receiving, expects, with_bytes, ends_block, ticks_later, open_after, completed_by, granted_by, go_on};
 ghost use Rattle.diag_pdu.specs.Request.{request_of};
-ghost use Rattle.diag_pdu.specs.Kind.{Consecutive, IsRead, says, needed_for};
+ghost use Rattle.diag_pdu.specs.Kind.{Single, Consecutive, IsRead, says, single_only, room_to_begin, needed_for};
 
 use diag_can::FrameBytes;
 use diag_pdu::{
-    LinkSetup, Message, Pci, Request, consecutive_count, flow_frame, head_size, padded,
+    DataLength, LinkSetup, Message, Pci, Request, consecutive_count, flow_frame, gone_with, padded,
 };
 use std::alloc::{AllocError, Global};
 use std::marker::Model;
@@ -27,12 +28,13 @@ enum PartialBytes {
     Staged(Request),
 }
 
-/// A message of `len` bytes of which the First and `count` of `total` Consecutives came, `silence` ticks after the last of
-/// them.
+/// A message of `len` bytes, in frames of that length, of which the First and `count` of `total` Consecutives came, `silence`
+/// ticks after the last of them.
 #[derive(Drop)]
 struct Receiving {
     held: PartialBytes,
     len: u16,
+    rx_dl: DataLength,
     total: u16,
     count: u16,
     silence: u16,
@@ -49,14 +51,15 @@ impl Model for Receiving {
     ghost view = { λ a. record {
       seen = record {
         len = a.len;
+        rx_dl = a.rx_dl;
         count = a.count;
-        bytes = bytes_held a.len a.count a.held;
+        bytes = bytes_held a.rx_dl a.len a.count a.held;
         silence = a.silence;
       };
       staged = staged_in a.held;
     } };
 
-    ghost invariant = { λ a. IsHeld a.len a.count a.held × (a.total ≡ consecutive_count a.len) };
+    ghost invariant = { λ a. IsHeld a.rx_dl a.len a.count a.held × (a.total ≡ consecutive_count a.rx_dl a.len) };
 }
 
 impl Receiving {
@@ -73,25 +76,31 @@ impl Receiving {
     fn expects(&self, sequence_number: u8, size: usize) -> bool
         ensures { result ≡ expects self.now.seen sequence_number size }
     {
-        let left = usize::from(self.len.saturating_sub(head_size(self.len))).saturating_sub(
-            7 * usize::from(self.count),
-        );
-        self.is_next_number(sequence_number) && left.min(7) <= size
+        let left = usize::from(self.len).saturating_sub(gone_with(
+            self.rx_dl, self.len, self.count,
+        ));
+        let most = self.most();
+        self.is_next_number(sequence_number) && left.min(most) <= size && size <= most
+    }
+
+    /// How many bytes a Consecutive has that isn't the last.
+    #[inline(always)]
+    fn most(&self) -> usize
+        ensures value { result ≡ in_bytes self.now.seen.rx_dl - 1 }
+        ensures fits { (7 ≤ result) × (result ≤ 63) }
+    {
+        usize::from(self.rx_dl.in_bytes()) - 1
     }
 
     /// Adds the bytes of the next Consecutive, which isn't the last.
     #[inline(never)]
     fn add(&mut self, part: &[u8])
-        requires more { self.old.seen.count + 1 < consecutive_count self.old.seen.len }
-        requires few { length part.now ≤ 7 }
-        requires fits { 7 ≤ length part.now }
+        requires more { self.old.seen.count + 1 < consecutive_count self.old.seen.rx_dl self.old.seen.len }
+        requires size { length part.now ≡ in_bytes self.old.seen.rx_dl - 1 }
         ensures { self.new.seen ≡ with_bytes self.old.seen part.now }
     {
         match &mut self.held {
-            PartialBytes::Growing(bytes) => {
-                let taken = bytes.extend_from_slice(&part[..7]).is_ok();
-                prove!(taken);
-            }
+            PartialBytes::Growing(bytes) => add_part(bytes, part),
             PartialBytes::Staged(_) => unreachable!(),
         }
         self.count += 1;
@@ -101,7 +110,7 @@ impl Receiving {
     /// Stages the message with the bytes of the last Consecutive. What is seen of the reception stays.
     #[inline(never)]
     fn stage(&mut self, part: &[u8])
-        requires last { self.old.seen.count + 1 ≡ consecutive_count self.old.seen.len }
+        requires last { self.old.seen.count + 1 ≡ consecutive_count self.old.seen.rx_dl self.old.seen.len }
         requires fits { self.old.seen.len ≤ length self.old.seen.bytes + length part.now }
         ensures seen { self.new.seen ≡ self.old.seen }
         ensures staged { self.new.staged
@@ -115,7 +124,9 @@ impl Receiving {
                     message: whole(begun, self.len, part),
                 });
             }
-            PartialBytes::Staged(request) => set_last(request, self.len, self.count, part),
+            PartialBytes::Staged(request) => {
+                set_last(request, self.rx_dl, self.len, self.count, part)
+            }
         }
     }
 
@@ -130,7 +141,7 @@ impl Receiving {
     /// Whether a Consecutive of this number and size is the next one, and the last.
     #[inline(always)]
     fn is_completed_by(&self, sequence_number: u8, size: usize) -> bool
-        ensures is { result ≡ ((self.now.seen.count + 1 == consecutive_count self.now.seen.len)
+        ensures is { result ≡ ((self.now.seen.count + 1 == consecutive_count self.now.seen.rx_dl self.now.seen.len)
             && expects self.now.seen sequence_number size) }
         ensures fits { IsTrue result
             → self.now.seen.len ≤ length self.now.seen.bytes + size }
@@ -141,11 +152,11 @@ impl Receiving {
     /// Whether a Consecutive of this number and size is the next one, and not the last.
     fn goes_on_with(&self, sequence_number: u8, size: usize) -> bool
         ensures is { result ≡ (expects self.now.seen sequence_number size
-            && nat_lt (self.now.seen.count + 1) (consecutive_count self.now.seen.len)) }
+            && nat_lt (self.now.seen.count + 1) (consecutive_count self.now.seen.rx_dl self.now.seen.len)) }
     {
         u32::from(self.count) + 1 < u32::from(self.total)
             && self.is_next_number(sequence_number)
-            && size >= 7
+            && size == self.most()
     }
 
     /// The bytes that came.
@@ -157,7 +168,7 @@ impl Receiving {
         match &self.held {
             PartialBytes::Growing(bytes) => bytes.as_slice(),
             PartialBytes::Staged(request) => &request.message.bytes()[..kept_bytes(
-                self.len, self.count,
+                self.rx_dl, self.len, self.count,
             )],
         }
     }
@@ -218,7 +229,7 @@ impl Model for Receiver {
     } };
 
     ghost invariant = { λ a. (a.spare.items ≡ [])
-        × IfSome a.partial (λ p. p.seen.count < consecutive_count p.seen.len) };
+        × IfSome a.partial (λ p. p.seen.count < consecutive_count p.seen.rx_dl p.seen.len) };
 }
 
 impl Receiver {
@@ -248,23 +259,23 @@ impl Receiver {
     #[inline(always)]
     pub fn take(&mut self, setup: &LinkSetup, pci: Pci<'_>) -> Option<FrameBytes>
         requires read { IsRead setup.now.max_request (says pci) }
-        requires room { needed_for (says pci) ≤ self.old.room }
+        requires room { room_to_begin (says pci) ≤ self.old.room }
         ensures partial { self.new.partial ≡ open_after self.old.partial (says pci.entry) }
         ensures grant { result ≡ granted_by setup.now self.old.partial (says pci.entry) }
-        ensures kept { needed_for (says pci.entry) ≡ 0 → self.old.room ≤ self.new.room }
+        ensures kept { room_to_begin (says pci.entry) ≡ 0 → self.old.room ≤ self.new.room }
     {
         match pci {
             Pci::Single(_) => {
                 self.end();
                 None
             }
-            Pci::First { len, head } => {
-                self.begin(len, head);
+            Pci::First { len, rx_dl, head } => {
+                self.begin(len, rx_dl, head);
                 Some(go_on(setup))
             }
             Pci::Overflow => {
                 self.end();
-                Some(padded(flow_frame(2, 0, 0), setup.pad))
+                Some(padded(flow_frame(2, 0, 0), setup.framing.pad))
             }
             Pci::Consecutive {
                 sequence_number,
@@ -277,16 +288,17 @@ impl Receiver {
     /// The message that this frame completes, taken out of the reception, which it ends.
     pub fn complete(&mut self, pci: Pci<'_>) -> Option<Message>
         requires read { IsRead 65535 (says pci) }
+        requires room { needed_for (single_only (says pci)) ≤ self.old.room }
         ensures message { result ≡ completed_by self.old.partial (says pci.entry) }
         ensures partial { open_after self.new.partial (says pci.entry)
             ≡ open_after self.old.partial (says pci.entry) }
         ensures grant { (s : ALinkSetup) → granted_by s self.new.partial (says pci.entry)
             ≡ granted_by s self.old.partial (says pci.entry) }
         ensures same { IfNone result (self.new ≡ self.old) }
-        ensures room { self.new.room ≡ self.old.room }
+        ensures room { needed_for (single_only (says pci.entry)) ≡ 0 → self.new.room ≡ self.old.room }
     {
         match pci {
-            Pci::Single(payload) => Some(Message::in_place(FrameBytes::from_slice(payload))),
+            Pci::Single(payload) => Some(self.single(payload)),
             Pci::Consecutive {
                 sequence_number,
                 part,
@@ -299,6 +311,23 @@ impl Receiver {
             }
             _ => None,
         }
+    }
+
+    /// The message of a SingleFrame, which takes the room that was made for it where it is longer than 8 bytes.
+    pub fn single(&mut self, payload: &[u8]) -> Message
+        requires read { (1 ≤ length payload.now) × (length payload.now ≤ 62) }
+        requires room { needed_for (Single payload.now) ≤ self.old.room }
+        ensures message { result ≡ payload.now }
+        ensures partial { self.new.partial ≡ self.old.partial }
+        ensures room { needed_for (Single payload.now) ≡ 0 → self.new.room ≡ self.old.room }
+    {
+        if payload.len() <= 8 {
+            return Message::in_place(FrameBytes::from_slice(payload));
+        }
+        let mut bytes = mem::replace(&mut self.spare, Vec::new(self.alloc));
+        let taken = bytes.extend_from_slice(payload).is_ok();
+        prove!(taken);
+        Message::from_vec(bytes)
     }
 
     /// Whether this Consecutive would complete a message.
@@ -319,7 +348,7 @@ impl Receiver {
         ensures { IfOk result (λ message. message ≡ completed_by self.now.partial (says pci.entry)) }
     {
         match pci {
-            Pci::Single(payload) => Ok(Some(Message::in_place(FrameBytes::from_slice(payload)))),
+            Pci::Single(payload) => Ok(Some(Message::of(self.alloc, payload)?)),
             Pci::Consecutive {
                 sequence_number,
                 part,
@@ -336,7 +365,6 @@ impl Receiver {
     /// Stages the message that this Consecutive completes; whether it completes one. What is seen of the reception stays.
     #[inline(always)]
     pub fn stage(&mut self, sequence_number: u8, part: &[u8]) -> bool
-        requires few { length part.now ≤ 7 }
         ensures is { result
             ≡ is_some (completed_by self.old.partial (Consecutive sequence_number part.now)) }
         ensures staged { IsTrue result → self.new.staged
@@ -410,10 +438,11 @@ impl Receiver {
     }
 
     /// A reception begins, in the place of the one that is open, if any.
-    pub fn begin(&mut self, len: u16, head: &[u8])
-        requires read { (8 ≤ len) × (length head.now ≡ head_size len) }
+    pub fn begin(&mut self, len: u16, rx_dl: DataLength, head: &[u8])
+        requires long { single_most rx_dl < len }
+        requires head { length head.now ≡ head_size rx_dl len }
         requires room { len ≤ self.old.room }
-        ensures { self.new.partial ≡ Some (begun_receiving len head.now) }
+        ensures { self.new.partial ≡ Some (begun_receiving len rx_dl head.now) }
     {
         add_head(&mut self.spare, head);
         let bytes = mem::replace(&mut self.spare, Vec::new(self.alloc));
@@ -421,7 +450,8 @@ impl Receiver {
         self.partial = Some(Receiving {
             held: PartialBytes::Growing(bytes),
             len,
-            total: consecutive_count(len),
+            rx_dl,
+            total: consecutive_count(rx_dl, len),
             count: 0,
             silence: 0,
         });
@@ -431,7 +461,6 @@ impl Receiver {
     /// be let go on.
     #[inline(always)]
     pub fn consecutive(&mut self, setup: &LinkSetup, sequence_number: u8, part: &[u8]) -> bool
-        requires few { length part.now ≤ 7 }
         ensures partial { self.new.partial
             ≡ open_after self.old.partial (Consecutive sequence_number part.now) }
         ensures grant { (if result then Some (go_on setup.now) else None)
@@ -510,14 +539,33 @@ fn add_head(bytes: &mut Vec<u8>, head: &[u8])
 pub fn go_on(setup: &LinkSetup) -> FrameBytes
     ensures { result ≡ go_on setup.now }
 {
-    padded(flow_frame(0, setup.block_size, setup.st_min), setup.pad)
+    padded(
+        flow_frame(0, setup.block_size, setup.st_min),
+        setup.framing.pad,
+    )
+}
+
+/// Adds the part of a Consecutive that isn't the last, where there is room: mostly there are seven bytes, which are read before
+/// any is written.
+#[inline(always)]
+fn add_part(bytes: &mut Vec<u8>, part: &[u8])
+    requires room { length bytes.old.items + length part.now ≤ vec_capacity bytes.old }
+    ensures items { bytes.new.items ≡ bytes.old.items ++ part.now }
+    ensures kept { vec_capacity bytes.old ≤ vec_capacity bytes.new }
+{
+    let added = match part.as_array::<7>() {
+        Some(&seven) => bytes.extend_from_slice(&seven),
+        None => bytes.extend_from_slice(part),
+    };
+    let taken = added.is_ok();
+    prove!(taken);
 }
 
 /// How many bytes came with the First and so many Consecutives.
-fn kept_bytes(len: u16, count: u16) -> usize
-    ensures { result ≡ kept_bytes len count }
+fn kept_bytes(rx_dl: DataLength, len: u16, count: u16) -> usize
+    ensures { result ≡ kept_bytes rx_dl len count }
 {
-    usize::from(len).min(usize::from(head_size(len)) + 7 * usize::from(count))
+    usize::from(len).min(gone_with(rx_dl, len, count))
 }
 
 /// The message of this length that begins with these bytes and ends with a part; what goes past it is padding.
@@ -536,13 +584,13 @@ fn whole(mut bytes: Vec<u8>, len: u16, part: &[u8]) -> Message
 }
 
 /// Puts another last part into a request that is staged.
-fn set_last(request: &mut Request, len: u16, count: u16, part: &[u8])
-    requires whole { IsHeld len count (PartialBytes.Staged request.old) }
-    requires fits { len ≤ kept_bytes len count + length part.now }
-    ensures whole { IsHeld len count (PartialBytes.Staged request.new) }
+fn set_last(request: &mut Request, rx_dl: DataLength, len: u16, count: u16, part: &[u8])
+    requires whole { IsHeld rx_dl len count (PartialBytes.Staged request.old) }
+    requires fits { len ≤ kept_bytes rx_dl len count + length part.now }
+    ensures whole { IsHeld rx_dl len count (PartialBytes.Staged request.new) }
     ensures staged { request.new ≡ request_of false
-        (take len (take (kept_bytes len count) request.old.message ++ part.now)) }
+        (take len (take (kept_bytes rx_dl len count) request.old.message ++ part.now)) }
 {
-    let left = usize::from(len) - kept_bytes(len, count);
+    let left = usize::from(len) - kept_bytes(rx_dl, len, count);
     request.message.set_end(&part[..left]);
 }

@@ -29,8 +29,7 @@ ghost use Rattle.diag_sides.specs.Sender.{fields_left, IsSound, settled_in, repl
 
 use crate::queue::Queue;
 use crate::sending::{Phase, Sending};
-use diag_can::FrameBytes;
-use diag_pdu::{LinkSetup, Message, frame_at, frames_of};
+use diag_pdu::{Framing, LinkSetup, MakeFrame, Message};
 use std::alloc::{AllocError, Global};
 use std::marker::Model;
 
@@ -39,29 +38,37 @@ use std::marker::Model;
 pub struct Sender {
     current: Option<Sending>,
     waiting: Queue,
+    framing: Framing,
 }
 
 impl Model for Sender {
-    ghost use Rattle.std.specs.Prelude.{IfSome};
+    ghost use Rattle.std.specs.Prelude.{◌≡◌, IfSome};
     ghost use Rattle.diag_sides.specs.Sender.{SenderFields, IsSound};
 
     ghost Value = { SenderFields };
 
-    ghost view = { λ a.
-        record { current = a.current; waiting = a.waiting.replies; room = a.waiting.room } };
+    ghost view = { λ a. record {
+      current = a.current;
+      waiting = a.waiting.replies;
+      room = a.waiting.room;
+      framing = a.framing;
+    } };
 
-    ghost invariant = { λ a. IfSome a.current (λ c. IsSound c) };
+    ghost invariant = { λ a. IfSome a.current (λ c. IsSound a.framing.tx_dl c)
+        × (a.waiting.tx_dl ≡ a.framing.tx_dl) };
 }
 
 impl Sender {
-    /// A sender without messages.
-    pub fn new(alloc: Global) -> Sender
+    /// A sender without messages, which makes frames so.
+    pub fn new(alloc: Global, framing: Framing) -> Sender
         ensures current { result.current ≡ None }
         ensures waiting { result.waiting ≡ [] }
+        ensures framing { result.framing ≡ framing }
     {
         Sender {
             current: None,
-            waiting: Queue::new(alloc),
+            waiting: Queue::new(alloc, framing.tx_dl),
+            framing,
         }
     }
 
@@ -72,6 +79,7 @@ impl Sender {
         ensures kept { self.old.room ≤ self.new.room }
         ensures current { self.new.current ≡ self.old.current }
         ensures waiting { self.new.waiting ≡ self.old.waiting }
+        ensures framing { self.new.framing ≡ self.old.framing }
     {
         self.waiting.make_room()
     }
@@ -82,6 +90,7 @@ impl Sender {
         ensures kept { self.old.room ≤ self.new.room }
         ensures current { self.new.current ≡ self.old.current }
         ensures waiting { self.new.waiting ≡ self.old.waiting }
+        ensures framing { self.new.framing ≡ self.old.framing }
     {
         self.waiting.make_rooms(count)
     }
@@ -91,6 +100,7 @@ impl Sender {
     pub fn answer(&mut self, setup: &LinkSetup, message: Message)
         requires room { 0 < self.old.room }
         ensures room { self.old.room ≤ self.new.room + 1 }
+        ensures framing { self.new.framing ≡ self.old.framing }
         ensures settled { settled_in setup.now self.new.current self.new.waiting
             ≡ replied setup.now message
             (settled_in setup.now self.old.current self.old.waiting) }
@@ -116,6 +126,7 @@ impl Sender {
         ensures current { self.new.current ≡ None }
         ensures waiting { self.new.waiting ≡ self.old.waiting }
         ensures room { self.new.room ≡ self.old.room }
+        ensures framing { self.new.framing ≡ self.old.framing }
     {
         self.current = None;
     }
@@ -126,6 +137,7 @@ impl Sender {
         ensures current { self.new.current ≡ ticked_fields setup.now count self.old.current }
         ensures waiting { self.new.waiting ≡ self.old.waiting }
         ensures room { self.new.room ≡ self.old.room }
+        ensures framing { self.new.framing ≡ self.old.framing }
     {
         if let Some(sending) = &mut self.current
             && !sending.tick(setup, count)
@@ -136,10 +148,12 @@ impl Sender {
 
     /// A flow control frame.
     pub fn flow(&mut self, setup: &LinkSetup, flow_status: u8, block_size: u8, st_min: u8)
+        requires framing { setup.now.framing ≡ self.old.framing }
         ensures current { self.new.current
             ≡ flowed_fields setup.now (flow_decision flow_status block_size st_min) self.old.current }
         ensures waiting { self.new.waiting ≡ self.old.waiting }
         ensures room { self.new.room ≡ self.old.room }
+        ensures framing { self.new.framing ≡ self.old.framing }
     {
         if let Some(sending) = &mut self.current
             && !sending.decide(setup, flow_status, block_size, st_min)
@@ -150,27 +164,35 @@ impl Sender {
 
     /// The next frame that is due.
     #[tactic(auto, using(crate::proofs::Settled::settled_next, crate::proofs::Settled::drained_fields, crate::proofs::Settled::fields_drained))]
-    pub fn next_frame(&mut self, setup: &LinkSetup) -> Option<FrameBytes>
+    pub fn next_frame<F: MakeFrame>(&mut self, setup: &LinkSetup) -> Option<F>
+        requires framing { setup.now.framing ≡ self.old.framing }
+        requires fits { F.is_for setup.now.framing }
         ensures some { IfSome result (λ frame.
             settled_in setup.now self.old.current self.old.waiting
-            ≡ before_these (frame ∷ []) (settled_in setup.now self.new.current self.new.waiting)) }
+            ≡ before_these (F.bytes frame ∷ [])
+            (settled_in setup.now self.new.current self.new.waiting)) }
         ensures none { IsNone result
             ↔ ((settled_in setup.now self.old.current self.old.waiting).due ≡ []) }
         ensures same { IfNone result (self.new ≡ self.old) }
         ensures room { self.old.room ≤ self.new.room }
+        ensures framing { self.new.framing ≡ self.old.framing }
     {
         self.take_frame(setup)
     }
 
     /// The next frame that is due, field by field.
-    fn take_frame(&mut self, setup: &LinkSetup) -> Option<FrameBytes>
-        ensures sound { IfSome self.old.current (λ c. IsSound c) }
-        ensures some { IfSome result (λ frame. IsNextFrame setup.now self.old self.new frame) }
+    fn take_frame<F: MakeFrame>(&mut self, setup: &LinkSetup) -> Option<F>
+        requires framing { setup.now.framing ≡ self.old.framing }
+        requires fits { F.is_for setup.now.framing }
+        ensures sound { IfSome self.old.current (λ c. IsSound setup.now.framing.tx_dl c) }
+        ensures some { IfSome result (λ frame.
+            IsNextFrame setup.now self.old self.new (F.bytes frame)) }
         ensures none { IsNone result
             ↔ (IfSome self.old.current (λ c. c.due ≡ 0)
             × (self.old.current ≡ None → self.old.waiting ≡ [])) }
         ensures same { IfNone result (self.new ≡ self.old) }
         ensures room { self.old.room ≤ self.new.room }
+        ensures framing { self.new.framing ≡ self.old.framing }
     {
         if self.current.is_none() {
             let Some(message) = self.waiting.pop() else {
@@ -182,21 +204,24 @@ impl Sender {
     }
 
     /// The next frame of the current message, if one is due.
-    fn current_frame(&mut self, setup: &LinkSetup) -> Option<FrameBytes>
-        ensures sound { IfSome self.old.current (λ c. IsSound c) }
+    fn current_frame<F: MakeFrame>(&mut self, setup: &LinkSetup) -> Option<F>
+        requires framing { setup.now.framing ≡ self.old.framing }
+        requires fits { F.is_for setup.now.framing }
+        ensures sound { IfSome self.old.current (λ c. IsSound setup.now.framing.tx_dl c) }
         ensures some { IfSome result (λ frame. IfSome self.old.current (λ c.
-            goes_on_from setup.now c self.old.waiting self.new frame)) }
+            goes_on_from setup.now c self.old.waiting self.new (F.bytes frame))) }
         ensures none { IsNone result ↔ IfSome self.old.current (λ c. c.due ≡ 0) }
         ensures same { IfNone result (self.new ≡ self.old) }
         ensures found { IfSome result (λ _. IsSome self.old.current) }
         ensures room { self.new.room ≡ self.old.room }
+        ensures framing { self.new.framing ≡ self.old.framing }
     {
         let sending = self.current.as_mut()?;
         if sending.due == 0 {
             return None;
         }
-        let frame = frame_at(&sending.message, sending.next, setup.pad);
-        if !sending.go() {
+        let frame = F::frame_at(&sending.message, sending.next, &setup.framing);
+        if !sending.go(F::tx_dl(&setup.framing)) {
             self.end();
         }
         Some(frame)
@@ -209,6 +234,7 @@ impl Sender {
         ensures current { self.new.current ≡ current_later count self.old.current }
         ensures waiting { self.new.waiting ≡ self.old.waiting }
         ensures room { self.new.room ≡ self.old.room }
+        ensures framing { self.new.framing ≡ self.old.framing }
     {
         if let Some(sending) = &mut self.current {
             sending.phase.pass_quietly(count);
@@ -240,11 +266,11 @@ impl Sender {
     /// How many frames of the current message and of those that wait have not gone.
     #[inline(always)]
     pub fn backlog(&self) -> u64
-        ensures count { result
-            ≡ fields_left self.now.current + sum_by frames_of self.now.waiting }
+        ensures count { result ≡ fields_left self.now.framing.tx_dl self.now.current
+            + sum_by (frames_of self.now.framing.tx_dl) self.now.waiting }
     {
         let left = match &self.current {
-            Some(sending) => frames_of(&sending.message) - sending.next,
+            Some(sending) => sending.left(self.framing.tx_dl),
             None => 0,
         };
         self.waiting.frames() + u64::from(left)
@@ -253,13 +279,11 @@ impl Sender {
     /// How many replies have not begun: those that begin with a frame that is due have.
     #[tactic(auto, using(crate::proofs::Settled::settled_waits, crate::proofs::Settled::settled_begins))]
     pub fn waiting(&self) -> usize
-        ensures { (s : ALinkSetup)
+        ensures { (s : ALinkSetup) → s.framing ≡ self.now.framing
             → result ≡ length (settled_in s self.now.current self.now.waiting).left.waiting }
     {
         match &self.current {
-            Some(sending) if sending.due < frames_of(&sending.message) - sending.next => {
-                self.waiting.len()
-            }
+            Some(sending) if sending.due < sending.left(self.framing.tx_dl) => self.waiting.len(),
             _ => self.waiting.still_waiting(),
         }
     }
@@ -267,7 +291,7 @@ impl Sender {
     /// Whether no frame is due.
     #[inline(always)]
     pub fn is_drained(&self) -> bool
-        ensures sound { IfSome self.now.current (λ c. IsSound c) }
+        ensures sound { IfSome self.now.current (λ c. IsSound self.now.framing.tx_dl c) }
         ensures drained { IsTrue result
             ↔ (IfSome self.now.current (λ c. c.due ≡ 0)
             × (self.now.current ≡ None → self.now.waiting ≡ [])) }

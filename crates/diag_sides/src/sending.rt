@@ -11,10 +11,11 @@ ghost use Rattle.std.specs.Prelude.{
 };
 ghost use Rattle.diag_sides.specs.Quiet.{phase_quiet, phase_later};
 ghost use Rattle.diag_sides.specs.Flow.{gap_ticks, flow_decision, block_size};
+ghost use Rattle.diag_pdu.specs.declared.length.DataLength.{DataLength as ADataLength};
 ghost use Rattle.diag_pdu.specs.Cut.{frames_of};
 ghost use Rattle.diag_sides.specs.Sender.{IsSound, within_block, flow_fields, tick_fields, block_fields, begun_sending, one_gone};
 
-use diag_pdu::{LinkSetup, Message, frames_of};
+use diag_pdu::{DataLength, LinkSetup, Message, frames_of};
 
 /// What the current message waits for.
 #[derive(Clone, Copy)]
@@ -95,10 +96,9 @@ fn within_block(setup: &LinkSetup, rest: u16, gap: u16) -> Phase
 impl Sending {
     /// So many ticks pass; false where the waiting time is up, which ends the message.
     pub(crate) fn tick(&mut self, setup: &LinkSetup, count: u16) -> bool
-        requires sound { IsSound self.old }
         ensures fields { (if result then Some self.new else None)
             ≡ tick_fields setup.now count self.old self.old.phase }
-        ensures sound { IsSound self.new }
+        ensures sound { (d : ADataLength) → IsSound d self.old → IsSound d self.new }
     {
         match self.phase {
             Phase::AwaitsFlow { ticks } => {
@@ -133,10 +133,10 @@ impl Sending {
         block: u8,
         st_min: u8,
     ) -> bool
-        requires sound { IsSound self.old }
+        requires sound { IsSound setup.now.framing.tx_dl self.old }
         ensures fields { (if result then Some self.new else None)
             ≡ flow_fields setup.now self.old (flow_decision flow_status block st_min) self.old.phase }
-        ensures sound { IsSound self.new }
+        ensures sound { IsSound setup.now.framing.tx_dl self.new }
     {
         if matches!(self.phase, Phase::InBlock { .. }) {
             return true;
@@ -151,12 +151,12 @@ impl Sending {
 
     /// A block begins.
     fn begin_block(&mut self, setup: &LinkSetup, block: u8, gap: u16)
-        requires sound { IsSound self.old }
+        requires sound { IsSound setup.now.framing.tx_dl self.old }
         ensures fields { self.new ≡ block_fields setup.now self.old
-            (block_size block (frames_of self.old.message - self.old.next)) gap }
-        ensures sound { IsSound self.new }
+            (block_size block (frames_of setup.now.framing.tx_dl self.old.message - self.old.next)) gap }
+        ensures sound { IsSound setup.now.framing.tx_dl self.new }
     {
-        let left = frames_of(&self.message) - self.next;
+        let left = self.left(setup.framing.tx_dl);
         let size = if block == 0 {
             left
         } else {
@@ -171,10 +171,19 @@ impl Sending {
         }
     }
 
+    /// How many frames of that length have not gone.
+    #[inline(always)]
+    pub(crate) fn left(&self, tx_dl: DataLength) -> u16
+        requires sound { IsSound tx_dl self.now }
+        ensures { result ≡ frames_of tx_dl self.now.message - self.now.next }
+    {
+        frames_of(tx_dl, &self.message) - self.next
+    }
+
     /// A message that begins.
     pub(crate) fn begun(setup: &LinkSetup, message: Message) -> Sending
         ensures fields { result ≡ begun_sending setup.now message }
-        ensures sound { IsSound result }
+        ensures sound { (d : ADataLength) → IsSound d result }
     {
         Sending {
             message,
@@ -184,17 +193,17 @@ impl Sending {
         }
     }
 
-    /// The next frame goes; false where it is the last.
-    pub(crate) fn go(&mut self) -> bool
-        requires sound { IsSound self.old }
+    /// The next frame of that length goes; false where it is the last.
+    pub(crate) fn go(&mut self, tx_dl: DataLength) -> bool
+        requires sound { IsSound tx_dl self.old }
         requires some { 0 < self.old.due }
-        ensures fields { (if result then Some self.new else None) ≡ one_gone self.old }
-        ensures sound { IsSound self.new }
+        ensures fields { (if result then Some self.new else None) ≡ one_gone tx_dl self.old }
+        ensures sound { IsSound tx_dl self.new }
     {
         let len = self.message.bytes().len();
         prove!(len <= 65535);
         let next = self.next + 1;
-        if self.due == 1 && next == frames_of(&self.message) {
+        if self.due == 1 && next == frames_of(tx_dl, &self.message) {
             return false;
         }
         self.next = next;

@@ -44,6 +44,8 @@ pub fn raw_two_testers(alloc: Global) -> Result<RawSetup, AllocError>
         max_request: 4095,
         pad: true,
         pad_byte: 0xCC,
+        tx_dl: 64,
+        fd_flags: 1,
         availability: 0xFF,
         functional: 0x7DF,
         attempts: 3,
@@ -68,6 +70,7 @@ fn tester(alloc: Global, name: &[u8], request: u32, response: u32) -> Result<Raw
         response,
         extended: false,
         functional: None,
+        fd: false,
     })
 }
 

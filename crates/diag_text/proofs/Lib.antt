@@ -1,5 +1,6 @@
 pub mod Codes
 pub mod Lines
+pub mod Parts
 pub mod Pieces
 pub mod Items
 pub mod Writing

@@ -3,14 +3,13 @@ use Rattle.std.proofs.Common.{◌≡◌, ℕ, ◌+◌, List, [], ◌∷◌, ◌+
 use Rattle.std.specs.List.{concat}
 use Rattle.std.proofs.lemmas.List.Folds.{concat-append}
 use Rattle.diag_tp.specs.declared.sent.Sent.{Sent}
-use Rattle.diag_setup.specs.Setup.{name_of}
 use Rattle.diag_setup.specs.declared.raw.RawSetup.{RawSetup}
-use Rattle.diag_text.specs.Text.{lines_of, lines_from}
+use Rattle.diag_text.specs.Text.{lines_of, lines_from, writer_of}
 
 pub lines_here : (setup : RawSetup) (text : List ℕ) (n : ℕ) (sent : List Sent) (others : List (List Sent)) (total : List ℕ)
-    → text ++ lines_from setup n (sent ∷ others) ≡ total → (text ++ lines_of (name_of setup n) sent) ++ lines_from setup (n + 1) others ≡ total
+    → text ++ lines_from setup n (sent ∷ others) ≡ total → (text ++ lines_of (writer_of setup n) sent) ++ lines_from setup (n + 1) others ≡ total
 unfolding lines_from
-lines_here setup text n sent others total h = append_assoc text (lines_of (name_of setup n) sent) (lines_from setup (n + 1) others) ∙ h
+lines_here setup text n sent others total h = append_assoc text (lines_of (writer_of setup n) sent) (lines_from setup (n + 1) others) ∙ h
 
 pub lines_done : (setup : RawSetup) (text : List ℕ) (n : ℕ) (total : List ℕ) → text ++ lines_from setup n [] ≡ total → text ≡ total
 unfolding lines_from
@@ -28,7 +27,7 @@ module _ {A : Type 0} (f : A → List Sent) (setup : RawSetup) (n : ℕ) where
   no_lines (x ∷ sent) none = absurd (omega arith)
 
   -- the lines of the first tester, and those of the others
-  pub first_lines : (sent : List A) (first : A) (others : List A) → sent ≡ first ∷ others → (own rest : List ℕ) → own ≡ lines_of (name_of setup n) (f first)
+  pub first_lines : (sent : List A) (first : A) (others : List A) → sent ≡ first ∷ others → (own rest : List ℕ) → own ≡ lines_of (writer_of setup n) (f first)
       → rest ≡ lines_from setup (n + 1) (map f others) → own ++ rest ≡ lines_from setup n (map f sent)
   unfolding lines_from
   first_lines sent first others is own rest first_own others_rest = rw (is, first_own, others_rest) refl

@@ -4,3 +4,4 @@ pub mod Devices
 pub mod Faults
 pub mod Taking
 pub mod Text
+pub mod Part

@@ -6,7 +6,8 @@ use Rattle.diag_can.specs.Reply.{reply_line}
 use Rattle.diag_can.specs.declared.log.Timing.{Timing}
 use Rattle.diag_can.specs.declared.log.Timing.TheVariants.{Lines, Stamps}
 use Rattle.diag_tp.specs.declared.sent.Sent.{Sent}
-use Rattle.diag_setup.specs.Setup.{name_of}
+use Rattle.diag_can.specs.WriterView.{WriterView}
+use Rattle.diag_setup.specs.Setup.{name_of, flags_of}
 use Rattle.diag_setup.specs.declared.raw.RawSetup.{RawSetup}
 use Rattle.diag_store.specs.declared.dtcs.Dtc.{Dtc}
 use Rattle.diag_ecu.specs.Bytes.{bytes_24}
@@ -15,15 +16,19 @@ use Rattle.diag_desk.specs.declared.entry.Entry.{Entry}
 use Rattle.diag_desk.specs.Legal.{Run, after}
 use Rattle.diag_desk.specs.Text.{journal_text, journal_text_at}
 
+-- what the reply lines of a tester say of it
+abbrev pub writer_of : RawSetup → ℕ → WriterView
+writer_of setup n = record { name = name_of setup n; flags = flags_of setup n }
+
 -- the reply lines of one tester
-abbrev pub lines_of : List ℕ → List Sent → List ℕ
-lines_of name sent = flat_map (λ s. reply_line name s.at s.frame) sent
+abbrev pub lines_of : WriterView → List Sent → List ℕ
+lines_of w sent = flat_map (λ s. reply_line w.name w.flags s.at s.frame) sent
 
 -- the reply lines of the testers from number n on, tester by tester
 unfoldable pub lines_from : RawSetup → ℕ → List (List Sent) → List ℕ
 lines_from setup n [] = []
 lines_from setup n (sent ∷ others) =
-    lines_of (name_of setup n) sent ++ lines_from setup (n + 1) others
+    lines_of (writer_of setup n) sent ++ lines_from setup (n + 1) others
 
 -- the journal's text: of version 2 where stamps carry time
 abbrev pub journal_part : Timing → List Entry → List ℕ

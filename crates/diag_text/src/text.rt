@@ -1,8 +1,9 @@
 //! The texts that a run writes.
 
-ghost use Rattle.std.specs.Prelude.{◌≡◌, ◌+◌, ◌++◌, ◌≤◌, length, map, IfOk, OnOk};
+ghost use Rattle.std.specs.Prelude.{◌≡◌, ◌+◌, ◌-◌, ◌++◌, ◌≤◌, ◌<◌, length, map, take, drop, IfOk, OnOk};
 ghost use Rattle.std.specs.List.{concat};
 ghost use Rattle.std.specs.Thread.{IsSync};
+ghost use Rattle.diag_text.specs.Part.{IsPart, part_lines};
 ghost use Rattle.diag_text.specs.Text.{lines_of, lines_from, journal_part, holder_name, held_lines, holder_lines, session_name, code_line, code_lines, end_text, whole_text, replay_text};
 
 use diag_can::{LineWriter, Timing, write_hex};
@@ -10,7 +11,7 @@ use diag_desk::{Journal, journal_text, journal_text_at};
 use diag_ecu::Ecu;
 use diag_setup::{Setup, TesterId};
 use diag_store::DtcMemory;
-use diag_tp::Sent;
+use diag_tp::SentFrames;
 use diag_world::Played;
 use std::alloc::{AllocError, Global};
 use std::thread::{Threads, join};
@@ -98,13 +99,20 @@ fn with_end(
     Ok(parts)
 }
 
+/// Frames of a list, from an index on and before another.
+#[derive(Clone, Copy)]
+struct Part {
+    from: usize,
+    end: usize,
+}
+
 /// The reply lines of the testers from this index on, 0 for all, in parts that are made beside each other.
 fn lines_beside<R: Threads + Sync>(
     rt: &R,
     alloc: Global,
     setup: &Setup,
     index: usize,
-    sent: &[Vec<Sent>],
+    sent: &[SentFrames],
 ) -> Result<Vec<Vec<u8>>, AllocError>
     requires index { index + length sent.now ≡ length setup.now.testers }
     requires few { length setup.now.testers ≤ 8 }
@@ -114,18 +122,22 @@ fn lines_beside<R: Threads + Sync>(
     let Some((frames, rest)) = sent.split_first() else {
         return Ok(Vec::new(alloc));
     };
-    let Some(who) = setup.who(index) else {
-        unreachable!()
-    };
-    let name = setup.name(who);
-    let frames = frames.as_slice();
+    let count = frames.len();
     let (own, others) = join(
         rt,
         move || -> Result<Vec<Vec<u8>>, AllocError>
-            requires { IsSync R.row }
+            requires { IsSync R.row
+                × (index < length setup.now.testers)
+                × (count ≤ length frames.now.items) }
             ensures { IfOk result (λ parts. concat (map (λ part. part.items) parts.items)
-                ≡ lines_of name.entry.now frames.entry.now) }
-        { lines_halved(rt, alloc, name, frames, MOST_PARTS) },
+                ≡ part_lines setup.entry.now (index + 1) frames.entry.now (record { from = 0; end = count })) }
+        {
+            let all = Part {
+                from: 0,
+                end: count,
+            };
+            lines_halved(rt, alloc, setup, index, frames, all, MOST_PARTS)
+        },
         move || -> Result<Vec<Vec<u8>>, AllocError>
             requires { IsSync R.row
                 × (index + 1 + length rest.now ≡ length setup.now.testers)
@@ -149,33 +161,68 @@ const FEW_LINES: usize = 65_536;
 fn lines_halved<R: Threads + Sync>(
     rt: &R,
     alloc: Global,
-    name: &[u8],
-    sent: &[Sent],
+    setup: &Setup,
+    index: usize,
+    sent: &SentFrames,
+    part: Part,
     most: u8,
 ) -> Result<Vec<Vec<u8>>, AllocError>
-    ensures { IfOk result (λ parts.
-        concat (map (λ part. part.items) parts.items) ≡ lines_of name.now sent.now) }
+    requires index { index < length setup.now.testers }
+    requires part { IsPart part sent.now }
+    ensures { IfOk result (λ parts. concat (map (λ part. part.items) parts.items)
+        ≡ part_lines setup.now (index + 1) sent.now part) }
 {
-    if most < 2 || sent.len() <= FEW_LINES {
-        let lines = tester_lines(alloc, name, sent)?;
-        return one_part(alloc, lines);
+    if most < 2 || part.end - part.from <= FEW_LINES {
+        return lines_alone(alloc, setup, index, sent, part);
     }
-    let (front, back) = sent.split_at(sent.len() / 2);
-    let half = most / 2;
-    let (front, back) = join(
+    let (from, end) = (part.from, part.end);
+    let (middle, half) = (from + (end - from) / 2, most / 2);
+    let (first, second) = join(
         rt,
         move || -> Result<Vec<Vec<u8>>, AllocError>
-            requires { IsSync R.row }
+            requires { IsSync R.row
+                × (index < length setup.now.testers)
+                × (from ≤ middle)
+                × (middle ≤ length sent.now.items) }
             ensures { IfOk result (λ parts. concat (map (λ part. part.items) parts.items)
-                ≡ lines_of name.entry.now front.entry.now) }
-        { lines_halved(rt, alloc, name, front, half) },
+                ≡ part_lines setup.entry.now (index + 1) sent.entry.now (record { from = from; end = middle })) }
+        {
+            let front = Part { from, end: middle };
+            lines_halved(rt, alloc, setup, index, sent, front, half)
+        },
         move || -> Result<Vec<Vec<u8>>, AllocError>
-            requires { IsSync R.row }
+            requires { IsSync R.row
+                × (index < length setup.now.testers)
+                × (middle ≤ end)
+                × (end ≤ length sent.now.items) }
             ensures { IfOk result (λ parts. concat (map (λ part. part.items) parts.items)
-                ≡ lines_of name.entry.now back.entry.now) }
-        { lines_halved(rt, alloc, name, back, half) },
+                ≡ part_lines setup.entry.now (index + 1) sent.entry.now (record { from = middle; end = end })) }
+        {
+            let back = Part { from: middle, end };
+            lines_halved(rt, alloc, setup, index, sent, back, half)
+        },
     );
-    both(front?, back?)
+    both(first?, second?)
+}
+
+/// The reply lines of one tester, in one part.
+fn lines_alone(
+    alloc: Global,
+    setup: &Setup,
+    index: usize,
+    sent: &SentFrames,
+    part: Part,
+) -> Result<Vec<Vec<u8>>, AllocError>
+    requires index { index < length setup.now.testers }
+    requires part { IsPart part sent.now }
+    ensures { IfOk result (λ parts. concat (map (λ part. part.items) parts.items)
+        ≡ part_lines setup.now (index + 1) sent.now part) }
+{
+    let Some(who) = setup.who(index) else {
+        unreachable!()
+    };
+    let lines = tester_lines(alloc, setup, who, sent, part)?;
+    one_part(alloc, lines)
 }
 
 /// The parts of one text and then those of another.
@@ -209,17 +256,26 @@ pub fn one_part(alloc: Global, text: Vec<u8>) -> Result<Vec<Vec<u8>>, AllocError
     Ok(parts)
 }
 
-/// The lines of the frames that one tester was sent.
-fn tester_lines(alloc: Global, name: &[u8], sent: &[Sent]) -> Result<Vec<u8>, AllocError>
-    ensures { IfOk result (λ text. text.items ≡ lines_of name.now sent.now) }
+/// The lines of these of the frames that one tester was sent.
+fn tester_lines(
+    alloc: Global,
+    setup: &Setup,
+    who: TesterId,
+    sent: &SentFrames,
+    part: Part,
+) -> Result<Vec<u8>, AllocError>
+    requires who { who ≤ length setup.now.testers }
+    requires part { IsPart part sent.now }
+    ensures { IfOk result (λ text. text.items ≡ part_lines setup.now who sent.now part) }
 {
-    let room = sent
-        .len()
-        .saturating_mul(name.len().saturating_add(USUAL_LINE));
+    let name = setup.name(who);
+    let count = part.end - part.from;
+    let room = count.saturating_mul(name.len().saturating_add(USUAL_LINE));
     let mut text = Vec::with_capacity(alloc, room)?;
-    if let Some(first) = sent.first() {
-        let mut writer = LineWriter::new(alloc, name, first.frame.id)?;
-        add_lines(&mut text, &mut writer, sent)?;
+    if count > 0 {
+        let id = sent.get(part.from).id;
+        let mut writer = LineWriter::new(alloc, name, id, setup.flags(who))?;
+        add_lines(&mut text, &mut writer, sent, part)?;
     }
     Ok(text)
 }
@@ -231,7 +287,7 @@ const USUAL_LINE: usize = 42;
 fn lines_in_turn(
     alloc: Global,
     setup: &Setup,
-    sent: &[Vec<Sent>],
+    sent: &[SentFrames],
 ) -> Result<Vec<Vec<u8>>, AllocError>
     requires { length sent.now ≡ length setup.now.testers }
     ensures { IfOk result (λ parts. concat (map (λ part. part.items) parts.items)
@@ -242,18 +298,30 @@ fn lines_in_turn(
         let Some(who) = setup.who(index) else {
             unreachable!()
         };
-        let lines = tester_lines(alloc, setup.name(who), frames.as_slice())?;
+        let part = Part {
+            from: 0,
+            end: frames.len(),
+        };
+        let lines = tester_lines(alloc, setup, who, frames, part)?;
         add_part(&mut parts, lines)?;
     }
     Ok(parts)
 }
 
-/// Adds the lines of the frames that one tester was sent.
-fn add_lines(text: &mut Vec<u8>, writer: &mut LineWriter, sent: &[Sent]) -> Result<(), AllocError>
-    ensures { OnOk result (text.new.items ≡ text.old.items ++ lines_of writer.old sent.now) }
+/// Adds the lines of these of the frames that one tester was sent.
+fn add_lines(
+    text: &mut Vec<u8>,
+    writer: &mut LineWriter,
+    sent: &SentFrames,
+    part: Part,
+) -> Result<(), AllocError>
+    requires { IsPart part sent.now }
+    ensures { OnOk result (text.new.items
+        ≡ text.old.items ++ lines_of writer.old (take (part.end - part.from) (drop part.from sent.now.items))) }
 {
-    for frame in sent {
-        writer.write(text, frame.at, &frame.frame)?;
+    for index in part.from..part.end {
+        let frame = sent.get(index);
+        writer.write(text, frame.at, frame.id, frame.bytes)?;
     }
     Ok(())
 }

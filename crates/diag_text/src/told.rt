@@ -8,7 +8,7 @@ ghost use Rattle.diag_bus.specs.Verdict.{agreement_text, expected_text, verdict_
 ghost use Rattle.diag_text.specs.Agreed.{agreed_status, agreed_text, compares_nothing};
 
 use diag_bus::{Comparisons, Difference, Verdict};
-use diag_can::{FrameBytes, write_hex};
+use diag_can::{KeptBytes, write_hex};
 use diag_setup::{Setup, TesterId};
 use std::alloc::{AllocError, Global};
 
@@ -149,7 +149,7 @@ fn lack_text(
     alloc: Global,
     name: &[u8],
     count: u64,
-    next: &FrameBytes,
+    next: &KeptBytes,
 ) -> Result<Vec<u8>, AllocError>
     ensures { IfOk result (λ text. text.items
         ≡ name.now ++ codes " sent " ++ decimal count ++ codes " frames, expected "

@@ -28,7 +28,7 @@ started-counts : (s : LinkSetup) (W : List (List ℕ)) → Counts s (sum_by (fra
 started-counts s [] = (refl, omega arith)
 started-counts s (P ∷ W) =
     let sum = sum_by-cons (frame_count s) P W in
-    let all = gone-counts s 1 (cut P s.pad) (begun_sending s P) W (started s W) (omega arith) (started-counts s W) in
+    let all = gone-counts s 1 (cut s.framing P) (begun_sending s P) W (started s W) (omega arith) (started-counts s W) in
     (omega arith, omega arith)
 
 pub settled-counts : (s : LinkSetup) (r : SenderState) → Counts s (left s r) (length r.waiting) (settled s r)
@@ -37,8 +37,8 @@ settled-counts s r = go r.current
     go : (cur : Option Current) → Counts s (current_left s cur + sum_by (frame_count s) r.waiting) (length r.waiting) (settled_in s cur r.waiting)
     go None = let all = started-counts s r.waiting in (omega arith, all.1)
     go (Some c) =
-        let size = length-drop c.next (cut c.message s.pad) in
-        let all = gone-counts s c.due (drop c.next (cut c.message s.pad)) c r.waiting (started s r.waiting) size (started-counts s r.waiting) in
+        let size = length-drop c.next (cut s.framing c.message) in
+        let all = gone-counts s c.due (drop c.next (cut s.framing c.message)) c r.waiting (started s r.waiting) size (started-counts s r.waiting) in
         (omega arith, all.1)
 
 -- at most so many frames, and at most so many replies

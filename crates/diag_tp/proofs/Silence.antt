@@ -43,7 +43,7 @@ current_still s n (Some c) few = phase-still s n c c.phase few
 -- what is due doesn't depend on the phase
 due-current : (s : LinkSetup) (n : ℕ) (o : Option Current) (W : List (List ℕ)) → (settled_in s (current_later n o) W).due ≡ (settled_in s o W).due
 due-current s n None W = refl
-due-current s n (Some c) W = go c.due (drop c.next (cut c.message s.pad)) c
+due-current s n (Some c) W = go c.due (drop c.next (cut s.framing c.message)) c
   where
     p : Phase
     p = phase_later n c.phase

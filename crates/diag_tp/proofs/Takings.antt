@@ -6,6 +6,8 @@ use Rattle.std.proofs.lemmas.Bool.Decides.{nat_tests}
 use Rattle.diag_can.specs.declared.frame.Event.{Event}
 use Rattle.diag_can.specs.declared.frame.Event.TheVariants.{Physical, Functional, Ticks}
 use Rattle.diag_pdu.specs.Kind.{Kind, Single, Consecutive, Ignored, kind, single_kind, first_kind, flow_kind, single_only}
+use Rattle.diag_pdu.specs.declared.length.DataLength.{DataLength}
+use Rattle.diag_pdu.specs.Length.{length_of}
 use Rattle.diag_pdu.specs.declared.setup.LinkSetup.{LinkSetup}
 use Rattle.diag_tp.specs.declared.taken.Taken.{Taken}
 use Rattle.diag_tp.specs.declared.sent.Sent.{Sent}
@@ -29,7 +31,7 @@ last-ends s o h = grind (arith, nat_tests)
 pub taken_other : (o : Option Receiving) (k : Kind) → completed_by o k ≡ None → left_of_kind o k ≡ OfKind k
 taken_other o k none = grind arith
 
--- a Single's payload stands behind the frame's first byte
+-- the payload of a Single of at most 8 bytes stands behind its first byte
 abbrev Stands : List ℕ → List ℕ → Type 0
 Stands bytes payload = (1 + length payload ≤ length bytes) × (take (length payload) (drop 1 bytes) ≡ payload)
 
@@ -37,12 +39,12 @@ either : {P : Type 0} (b : Bool) (x y k : Kind) → (x ≡ k → P) → (y ≡ k
 either true x y k f g h = f h
 either false x y k f g h = g h
 
-single-stands : (n : ℕ) (bytes payload : List ℕ) → single_kind n bytes ≡ Single payload → Stands bytes payload
-single-stands n [] payload h = grind arith
-single-stands n (control ∷ rest) payload h = grind (arith, nat_tests, length-take-le {A = ℕ})
+single-stands : (n : ℕ) (bytes payload : List ℕ) → length bytes ≤ 8 → single_kind n bytes ≡ Single payload → Stands bytes payload
+single-stands n [] payload few h = grind arith
+single-stands n (control ∷ rest) payload few h = grind (arith, nat_tests, length-take-le {A = ℕ})
 
-first-stands : (len max : ℕ) (bytes payload : List ℕ) → first_kind len bytes max ≡ Single payload → Stands bytes payload
-first-stands len max bytes payload h = grind arith
+first-stands : (len max : ℕ) (rx_dl : Option DataLength) (bytes payload : List ℕ) → first_kind len rx_dl bytes max ≡ Single payload → Stands bytes payload
+first-stands len max rx_dl bytes payload h = grind arith
 
 flow-stands : (n : ℕ) (bytes payload : List ℕ) → flow_kind n bytes ≡ Single payload → Stands bytes payload
 flow-stands n bytes payload h = grind arith
@@ -53,21 +55,21 @@ consecutive-stands n part bytes payload h = grind arith
 ignored-stands : (bytes payload : List ℕ) → Ignored ≡ Single payload → Stands bytes payload
 ignored-stands bytes payload h = grind arith
 
-payload-stands : (bytes payload : List ℕ) (max : ℕ) → kind bytes max ≡ Single payload → Stands bytes payload
+payload-stands : (bytes payload : List ℕ) (max : ℕ) → length bytes ≤ 8 → kind bytes max ≡ Single payload → Stands bytes payload
 unfolding kind
-payload-stands [] payload max h = ignored-stands [] payload h
-payload-stands (control ∷ rest) payload max h =
+payload-stands [] payload max few h = ignored-stands [] payload h
+payload-stands (control ∷ rest) payload max few h =
     let bytes = control ∷ rest in
-    either (control / 16 == 0) _ _ (Single payload) (single-stands (control % 16) bytes payload)
-    (either (control / 16 == 1) _ _ (Single payload) (first-stands (control % 16 * 256 + slice_index bytes 1) max bytes payload)
+    either (control / 16 == 0) _ _ (Single payload) (single-stands (control % 16) bytes payload few)
+    (either (control / 16 == 1) _ _ (Single payload) (first-stands (control % 16 * 256 + slice_index bytes 1) max (length_of (length bytes)) bytes payload)
     (either (control / 16 == 2) _ _ (Single payload) (consecutive-stands (control % 16) rest bytes payload)
     (either (control / 16 == 3) _ _ (Single payload) (flow-stands (control % 16) bytes payload) (ignored-stands bytes payload)))) h
 
-pub payload_inside : (bytes payload : List ℕ) (max : ℕ) → kind bytes max ≡ Single payload → 1 + length payload ≤ length bytes
-payload_inside bytes payload max h = (payload-stands bytes payload max h).0
+pub payload_inside : (bytes payload : List ℕ) (max : ℕ) → length bytes ≤ 8 → kind bytes max ≡ Single payload → 1 + length payload ≤ length bytes
+payload_inside bytes payload max few h = (payload-stands bytes payload max few h).0
 
-pub payload_same : (bytes payload : List ℕ) (max : ℕ) → kind bytes max ≡ Single payload → take (length payload) (drop 1 bytes) ≡ payload
-payload_same bytes payload max h = (payload-stands bytes payload max h).1
+pub payload_same : (bytes payload : List ℕ) (max : ℕ) → length bytes ≤ 8 → kind bytes max ≡ Single payload → take (length payload) (drop 1 bytes) ≡ payload
+payload_same bytes payload max few h = (payload-stands bytes payload max few h).1
 
 -- what is left of an event does what the event does
 record Does (s : LinkSetup) (o : Option Receiving) (l : Left) (e : Event) (current : Option Sending) (W : List (List ℕ)) : Type 0 where

@@ -93,13 +93,13 @@ answered_numbers link link' P grant sender = grind (arith, replied-numbers, leng
 -- and its frames are left at most
 pub answered_unsent : (link link' : LinkState) (P : List ℕ) → link'.grant ≡ link.grant → link'.setup ≡ link.setup
     → settled link'.setup link'.sender ≡ replied link.setup P (settled link.setup link.sender)
-    → unsent link' ≤ unsent link + frames_of P
+    → unsent link' ≤ unsent link + frames_of link.setup.framing.tx_dl P
 unfolding pending
 answered_unsent link link' P grant same sender =
     let before = unsent-due link in
     let after = unsent-due link' in
     let frames = replied-frames link.setup P (settled link.setup link.sender) in
-    let count = frames-count P link.setup.pad in
+    let count = frames-count link.setup.framing P in
     let due' : length (due link') ≡ length (option_to_list link.grant) + length (replied link.setup P (settled link.setup link.sender)).due =
     length-append (option_to_list link'.grant) (settled link'.setup link'.sender).due ∙ ap₂ (λ g r. length (option_to_list g) + length r.due) grant sender in
     let due : length (due link) ≡ length (option_to_list link.grant) + length (settled link.setup link.sender).due =
@@ -124,7 +124,7 @@ pub iff_then : {P Q R : Type 0} → P ↔ Q → Q ↔ R → P ↔ R
 iff_then f g = (λ p. g.0 (f.0 p), λ r. f.1 (g.1 r))
 
 -- drained, as a test says
-pub drained_iff : (s : LinkSetup) (cur : Option Sending) (W : List (List ℕ)) (b : Bool) → IfSome cur (λ c. IsSound c) →
+pub drained_iff : (s : LinkSetup) (cur : Option Sending) (W : List (List ℕ)) (b : Bool) → IfSome cur (λ c. IsSound s.framing.tx_dl c) →
     (IsTrue b → IsDrained cur W) → (IsDrained cur W → IsTrue b) →
     (IsTrue b → length (settled_in s cur W).due ≡ 0) × (length (settled_in s cur W).due ≡ 0 → IsTrue b)
 drained_iff s cur W b sound f g =

@@ -26,7 +26,7 @@ abbrev pub sender_frame : LinkSetup → Kind → Option Sending → List (List �
 sender_frame s (FlowControl flow_status block_size st_min) current W =
     sender_flow s (flow_decision flow_status block_size st_min) current W
 sender_frame s (Single payload) current W = no_flow current W
-sender_frame s (First len head) current W = no_flow current W
+sender_frame s (First len rx_dl head) current W = no_flow current W
 sender_frame s Overflow current W = no_flow current W
 sender_frame s (Consecutive sequence_number part) current W = no_flow current W
 sender_frame s Ignored current W = no_flow current W

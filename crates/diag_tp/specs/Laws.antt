@@ -1,10 +1,11 @@
 -- Small laws over the definitions, for who goes on from a link's history.
-use Rattle.std.specs.Prelude.{◌≡◌, ◌<◌, ℕ, suc, ◌+◌, ◌-◌, List, [], ◌∷◌, ◌++◌, length, map, Option, Some, None, IsSome, IsTrue, false}
+use Rattle.std.specs.Prelude.{◌≡◌, ◌<◌, ℕ, suc, ◌+◌, ◌-◌, List, [], ◌∷◌, ◌++◌, length, map, Some, None, IsSome, IsTrue, false}
 use Rattle.diag_can.specs.declared.frame.Event.{Event}
 use Rattle.diag_can.specs.declared.frame.Event.TheVariants.{Physical, Ticks}
 use Rattle.diag_pdu.specs.declared.setup.LinkSetup.{LinkSetup}
 use Rattle.diag_pdu.specs.declared.step.Step.TheVariants as step
 use Rattle.diag_pdu.specs.Request.{request_of}
+use Rattle.diag_pdu.specs.declared.framing.Framing.{Framing}
 use Rattle.diag_pdu.specs.Cut.{cut}
 use Rattle.diag_tp.specs.Moments.{moments, last_time}
 use Rattle.diag_tp.specs.Gives.{gives, gives_at, is_request}
@@ -32,9 +33,9 @@ pub record GivesLaw (s : LinkSetup) (E : List Event) : Type 0 where
       → IsTrue (is_request (gives s E e))
 
 -- the frames of P as physical events give P at the last, and nothing before
-pub record CutLaw (s : LinkSetup) (P : List ℕ) (pad : Option ℕ) : Type 0 where
+pub record CutLaw (s : LinkSetup) (P : List ℕ) (f : Framing) : Type 0 where
   pub before : (e : ℕ)
-      → suc e < length (cut P pad)
-      → gives_at s (map (λ bytes. Physical bytes) (cut P pad)) e ≡ None
-  pub last : gives_at s (map (λ bytes. Physical bytes) (cut P pad)) (length (cut P pad) - 1)
+      → suc e < length (cut f P)
+      → gives_at s (map (λ bytes. Physical bytes) (cut f P)) e ≡ None
+  pub last : gives_at s (map (λ bytes. Physical bytes) (cut f P)) (length (cut f P) - 1)
       ≡ Some (step.Request (request_of false P))

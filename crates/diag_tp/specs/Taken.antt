@@ -2,7 +2,7 @@
 use Rattle.std.specs.Prelude.{◌≡◌, ◌≤◌, ℕ, IsTrue, List, Option, None, Some, is_some, if◌then◌else◌}
 use Rattle.diag_can.specs.declared.frame.Event.{Event}
 use Rattle.diag_can.specs.declared.frame.Event.TheVariants.{Physical, Functional, Ticks}
-use Rattle.diag_pdu.specs.Kind.{Kind, Single, First, Overflow, Consecutive, FlowControl, Ignored, kind, says, single_only, needed_for, IsRead}
+use Rattle.diag_pdu.specs.Kind.{Kind, Single, First, Overflow, Consecutive, FlowControl, Ignored, kind, says, single_only, room_to_begin, IsRead}
 use Rattle.diag_pdu.specs.declared.setup.LinkSetup.{LinkSetup}
 use Rattle.diag_pdu.specs.declared.step.Request.{Request}
 use Rattle.diag_tp.specs.declared.taken.Taken.{Taken}
@@ -32,7 +32,7 @@ left_in (left.Other pci) = OfKind (says pci)
 -- of a Single nothing is left but that it ends a reception, and of the last Consecutive of a message the same
 abbrev pub left_of_kind : Option Receiving → Kind → Left
 left_of_kind o (Single payload) = OfSingle
-left_of_kind o (First len head) = OfKind (First len head)
+left_of_kind o (First len rx_dl head) = OfKind (First len rx_dl head)
 left_of_kind o Overflow = OfKind Overflow
 left_of_kind o (Consecutive sequence_number part) =
     if is_some (completed_by o (Consecutive sequence_number part))
@@ -63,7 +63,7 @@ FitsIn view left.Ignored = Unit {0}
 FitsIn view left.Single = Unit {0}
 FitsIn view left.Last = Unit {0}
 FitsIn view (left.Other pci) =
-    IsRead view.state.setup.max_request (says pci) × (needed_for (says pci) ≤ view.room)
+    IsRead view.state.setup.max_request (says pci) × (room_to_begin (says pci) ≤ view.room)
 
 -- the request that the frame completes: noted by the link, or staged
 abbrev pub asked_in : LinkView → Taken → Option Request

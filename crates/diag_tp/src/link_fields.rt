@@ -4,7 +4,7 @@ ghost use Rattle.std.specs.Prelude.{◌≡◌, ◌↔◌, ◌≤◌, ◌+◌, []
 ghost use Rattle.diag_can.specs.declared.frame.Event.{Event as AnEvent};
 ghost use Rattle.diag_pdu.specs.Request.{request_of};
 ghost use Rattle.diag_pdu.specs.Cut.{cut};
-ghost use Rattle.diag_pdu.specs.Kind.{Single, kind, says, IsRead, single_only, needed_for};
+ghost use Rattle.diag_pdu.specs.Kind.{Single, kind, says, IsRead, single_only, room_to_begin, needed_for};
 ghost use Rattle.diag_tp.specs.Gives.{is_request};
 ghost use Rattle.diag_sides.specs.Sender.{settled};
 ghost use Rattle.diag_tp.specs.Kept.{sender_event, sender_frame, sender_ticks};
@@ -16,15 +16,17 @@ ghost use Rattle.diag_tp.specs.Link.{is_frame, last_tick, needed, asked_of, part
 
 use crate::link::Link;
 use crate::taken::Taken;
-use diag_can::{Event, FrameBytes};
-use diag_pdu::{Message, Pci, Request, lone_frame};
+use diag_can::{EventKind, FrameBytes, LentEvent};
+use diag_pdu::{MakeFrame, Message, Pci, Request, lone_frame};
 use std::alloc::AllocError;
 
 impl Link {
     /// The bytes of the next frame: flow control goes first.
     #[inline(always)]
-    pub(crate) fn next_bytes(&mut self) -> Option<FrameBytes>
-        ensures some { IfSome result (λ bytes. due self.old.state ≡ bytes ∷ due self.new.state) }
+    pub(crate) fn next_bytes<F: MakeFrame>(&mut self) -> Option<F>
+        requires fits { F.is_for self.old.state.setup.framing }
+        ensures some { IfSome result (λ frame.
+            due self.old.state ≡ F.bytes frame ∷ due self.new.state) }
         ensures none { IsNone result ↔ (due self.old.state ≡ []) }
         ensures same { IfNone result (self.new ≡ self.old) }
         ensures left { (settled self.new.state.setup self.new.state.sender).left
@@ -36,7 +38,8 @@ impl Link {
         ensures now { self.new.state.now ≡ self.old.state.now }
     {
         if self.grant.is_some() {
-            return self.grant.take();
+            let grant = self.grant.take()?;
+            return Some(F::of_short(grant));
         }
         self.sender.next_frame(&self.setup)
     }
@@ -45,12 +48,12 @@ impl Link {
     #[inline(always)]
     pub(crate) fn lone_bytes(&self, message: &Message) -> Option<FrameBytes>
         ensures some { IfSome result (λ bytes.
-            cut message.now self.now.state.setup.pad ≡ bytes ∷ []) }
+            cut self.now.state.setup.framing message.now ≡ bytes ∷ []) }
         ensures found { IsSome result
             ↔ (IsIdle self.now.state × (length message.now ≤ 7)) }
     {
         if self.grant.is_none() && self.sender.is_free() {
-            return lone_frame(message, self.setup.pad);
+            return lone_frame(message, &self.setup.framing);
         }
         None
     }
@@ -66,21 +69,22 @@ impl Link {
 
     /// What a frame is to this side.
     #[inline(always)]
-    fn read<'f>(&self, frame: &'f FrameBytes) -> Pci<'f>
+    fn read<'f>(&self, frame: &'f [u8]) -> Pci<'f>
+        requires { length frame.now ≤ 64 }
         ensures kind { says result ≡ kind frame.now self.now.state.setup.max_request }
         ensures read { IsRead self.now.state.setup.max_request (says result) }
     {
-        Pci::read(frame.as_slice(), self.setup.max_request)
+        Pci::read(frame, self.setup.max_request)
     }
 
     /// Whether the event completes a request, from the fields.
-    pub(crate) fn gives_request(&self, event: &Event) -> bool
+    pub(crate) fn gives_request(&self, event: &LentEvent<'_>) -> bool
         ensures value { result
             ≡ is_request (step_after self.now.state.setup self.now.state.partial event.now) }
         ensures ticks { IsTrue result → IsTrue (is_frame event.now) }
     {
-        match event {
-            Event::Physical(bytes) => match self.read(bytes) {
+        match event.kind() {
+            EventKind::Physical(bytes) => match self.read(bytes) {
                 Pci::Single(_) => true,
                 Pci::Consecutive {
                     sequence_number,
@@ -88,27 +92,30 @@ impl Link {
                 } => self.receiver.completes(sequence_number, part),
                 _ => false,
             },
-            Event::Functional(bytes) => matches!(self.read(bytes), Pci::Single(_)),
-            Event::Ticks(_) => false,
+            EventKind::Functional(bytes) => matches!(self.read(bytes), Pci::Single(_)),
+            EventKind::Ticks(_) => false,
         }
     }
 
     /// What feeding this event would answer, from the fields.
-    pub(crate) fn peek_request(&self, event: &Event) -> Result<Option<Request>, AllocError>
+    pub(crate) fn peek_request(&self, event: &LentEvent<'_>) -> Result<Option<Request>, AllocError>
         requires frame { IsTrue (is_frame event.now) }
         ensures { IfOk result (λ request.
             asked_of request ≡ step_after self.now.state.setup self.now.state.partial event.now) }
     {
-        match event {
-            Event::Physical(bytes) => Ok(asked(false, self.receiver.peek(self.read(bytes))?)),
-            Event::Functional(bytes) => Ok(asked(true, single_of(self.read(bytes)))),
-            Event::Ticks(_) => Ok(None),
+        match event.kind() {
+            EventKind::Physical(bytes) => Ok(asked(false, self.receiver.peek(self.read(bytes))?)),
+            EventKind::Functional(bytes) => match self.read(bytes) {
+                Pci::Single(payload) => { Ok(asked(true, Some(Message::of(self.alloc, payload)?))) }
+                _ => Ok(None),
+            },
+            EventKind::Ticks(_) => Ok(None),
         }
     }
 
     /// Reads a frame and makes room for it, from the fields.
     #[inline(always)]
-    pub(crate) fn take_up<'f>(&mut self, event: &'f Event) -> Result<Taken<'f>, AllocError>
+    pub(crate) fn take_up<'f>(&mut self, event: &LentEvent<'f>) -> Result<Taken<'f>, AllocError>
         requires frame { IsTrue (is_frame event.now) }
         ensures same { self.new.state ≡ self.old.state }
         ensures room { OnOk result (0 < self.new.reply_room) }
@@ -120,26 +127,26 @@ impl Link {
         ensures reply_kept { self.old.reply_room ≤ self.new.reply_room }
     {
         self.sender.make_room()?;
-        match event {
-            Event::Physical(bytes) => {
+        match event.kind() {
+            EventKind::Physical(bytes) => {
                 let pci = self.read(bytes);
                 self.take_up_own(bytes, pci)
             }
-            Event::Functional(bytes) => match self.read(bytes) {
+            EventKind::Functional(bytes) => match self.read(bytes) {
                 Pci::Single(payload) => {
-                    self.note(true, bytes, payload);
+                    self.note(true, bytes, payload)?;
                     Ok(Taken::Functional)
                 }
                 _ => Ok(Taken::Ignored),
             },
-            Event::Ticks(_) => unreachable!(),
+            EventKind::Ticks(_) => unreachable!(),
         }
     }
 
     /// Makes room for the message of a frame with the tester's own identifier, and notes or stages what it completes.
     #[tactic(auto, using(crate::proofs::Takings::taken_other))]
     #[inline(always)]
-    fn take_up_own<'f>(&mut self, bytes: &FrameBytes, pci: Pci<'f>) -> Result<Taken<'f>, AllocError>
+    fn take_up_own<'f>(&mut self, bytes: &[u8], pci: Pci<'f>) -> Result<Taken<'f>, AllocError>
         requires kind { says pci ≡ kind bytes.now self.old.state.setup.max_request }
         requires read { IsRead self.old.state.setup.max_request (says pci) }
         ensures same { self.new.state ≡ self.old.state }
@@ -153,7 +160,7 @@ impl Link {
     {
         match pci {
             Pci::Single(payload) => {
-                self.note(false, bytes, payload);
+                self.note(false, bytes, payload)?;
                 return Ok(Taken::Single);
             }
             Pci::First { len, .. } => self.receiver.reserve(len)?,
@@ -166,37 +173,64 @@ impl Link {
         Ok(Taken::Other(pci))
     }
 
-    /// Makes room for the message of a frame with the tester's own identifier: a FirstFrame alone needs some.
+    /// Makes room for the message of a frame: a FirstFrame of the tester's own identifier needs some, and a SingleFrame of
+    /// more than 8 bytes.
     #[inline(always)]
-    pub(crate) fn make_room_for(&mut self, bytes: &FrameBytes) -> Result<(), AllocError>
-        ensures ok { OnOk result
-            (needed self.new.state.setup (AnEvent.Physical bytes.now) ≤ self.new.room) }
-        ensures read { IsReadHere self.new.state.setup (AnEvent.Physical bytes.now) }
+    pub(crate) fn make_room_for(&mut self, event: &LentEvent<'_>) -> Result<(), AllocError>
+        ensures ok { OnOk result (needed self.new.state.setup event.now ≤ self.new.room) }
+        ensures read { IsReadHere self.new.state.setup event.now }
         ensures kept { self.old.room ≤ self.new.room }
         ensures same { self.new.state ≡ self.old.state }
         ensures reply_room { self.new.reply_room ≡ self.old.reply_room }
     {
-        match self.read(bytes) {
-            Pci::First { len, .. } => self.receiver.reserve(len),
+        match event.kind() {
+            EventKind::Physical(bytes) => match self.read(bytes) {
+                Pci::First { len, .. } => self.receiver.reserve(len),
+                pci => self.make_room_for_single(pci),
+            },
+            EventKind::Functional(bytes) => self.make_room_for_single(self.read(bytes)),
+            EventKind::Ticks(_) => Ok(()),
+        }
+    }
+
+    /// Makes room for the message of a SingleFrame: one of up to 8 bytes needs none.
+    #[inline(always)]
+    fn make_room_for_single(&mut self, pci: Pci<'_>) -> Result<(), AllocError>
+        requires read { IsRead 65535 (says pci) }
+        ensures ok { OnOk result (needed_for (single_only (says pci.entry)) ≤ self.new.room) }
+        ensures kept { self.old.room ≤ self.new.room }
+        ensures same { self.new.state ≡ self.old.state }
+        ensures reply_room { self.new.reply_room ≡ self.old.reply_room }
+    {
+        match pci {
+            Pci::Single(payload) if payload.len() > 8 => {
+                self.receiver.reserve(payload.len() as u16)
+            }
             _ => Ok(()),
         }
     }
 
-    /// Notes the request of a SingleFrame, in the place of the one before. Its bytes are moved together.
+    /// Notes the request of a SingleFrame, in the place of the one before. The bytes of one of 8 bytes are moved together.
     #[tactic(auto, using(crate::proofs::Takings::payload_inside, crate::proofs::Takings::payload_same))]
     #[inline(always)]
-    fn note(&mut self, functional: bool, frame: &FrameBytes, payload: &[u8])
+    fn note(&mut self, functional: bool, frame: &[u8], payload: &[u8]) -> Result<(), AllocError>
         requires single { kind frame.now self.old.state.setup.max_request ≡ Single payload.now }
         requires some { 1 ≤ length payload.now }
-        ensures noted { self.new.noted ≡ request_of functional payload.now }
+        requires few { length payload.now ≤ 62 }
+        ensures noted { OnOk result (self.new.noted ≡ request_of functional payload.now) }
         ensures same { self.new.state ≡ self.old.state }
         ensures room { self.new.room ≡ self.old.room }
         ensures reply_room { self.new.reply_room ≡ self.old.reply_room }
     {
+        let message = &mut self.noted.message;
+        match frame.as_array::<8>() {
+            Some(&eight) => {
+                message.set_in_place(FrameBytes::full(eight).part(1, payload.len()));
+            }
+            None => message.set(self.alloc, payload)?,
+        }
         self.noted.functional = functional;
-        self.noted
-            .message
-            .set_in_place(frame.part(1, payload.len()));
+        Ok(())
     }
 
     /// Takes what is left of a frame, field by field.
@@ -217,7 +251,7 @@ impl Link {
     }
 
     /// Takes a frame, field by field.
-    pub(crate) fn receive(&mut self, event: &Event) -> Option<Request>
+    pub(crate) fn receive(&mut self, event: &LentEvent<'_>) -> Option<Request>
         requires frame { IsTrue (is_frame event.now) }
         requires room { needed self.old.state.setup event.now ≤ self.old.room }
         ensures answer { asked_of result
@@ -234,15 +268,18 @@ impl Link {
         ensures sender { self.new.state.sender ≡ sender_event self.old.state.setup
             event.now self.old.state.sender.current self.old.state.sender.waiting }
     {
-        match event {
-            Event::Physical(bytes) => {
+        match event.kind() {
+            EventKind::Physical(bytes) => {
                 let pci = self.read(bytes);
                 let message = self.receiver.complete(pci);
                 self.take_pci(pci);
                 asked(false, message)
             }
-            Event::Functional(bytes) => asked(true, single_of(self.read(bytes))),
-            Event::Ticks(_) => None,
+            EventKind::Functional(bytes) => match self.read(bytes) {
+                Pci::Single(payload) => asked(true, Some(self.receiver.single(payload))),
+                _ => None,
+            },
+            EventKind::Ticks(_) => None,
         }
     }
 
@@ -250,7 +287,7 @@ impl Link {
     #[inline(always)]
     fn take_pci(&mut self, pci: Pci<'_>)
         requires read { IsRead self.old.state.setup.max_request (says pci) }
-        requires room { needed_for (says pci) ≤ self.old.room }
+        requires room { room_to_begin (says pci) ≤ self.old.room }
         ensures partial { self.new.state.partial
             ≡ open_after self.old.state.partial (says pci.entry) }
         ensures grant { self.new.state.grant
@@ -292,17 +329,6 @@ impl Link {
         self.ticks = self.ticks.saturating_add(u64::from(count));
         self.receiver.pass(self.setup.n_cr.get(), count);
         self.sender.pass(&self.setup, count);
-    }
-}
-
-/// The message of a SingleFrame: of a functional frame nothing else counts.
-fn single_of(pci: Pci<'_>) -> Option<Message>
-    requires { IsRead 65535 (says pci) }
-    ensures { result ≡ completed_by None (single_only (says pci.entry)) }
-{
-    match pci {
-        Pci::Single(payload) => Some(Message::in_place(FrameBytes::from_slice(payload))),
-        _ => None,
     }
 }
 

@@ -8,7 +8,7 @@ use crate::watch::{Watch, WatchedDoor};
 use crate::working::WorkerRecord;
 use diag_gate::{Gate, GateDoor, Host, Seat};
 use diag_setup::TesterId;
-use diag_tp::Sent;
+use diag_tp::SentFrames;
 use std::alloc::{AllocError, Global};
 use std::sync::Wait;
 
@@ -62,7 +62,7 @@ pub(crate) fn doors_of<'a, W: Watch, R: Wait>(
 pub(crate) fn take_apart<W: Watch, R: Wait>(
     alloc: Global,
     done: Vec<(WorkerRecord<Unkept>, WatchedDoor<'_, GateDoor<'_, R>, W>)>,
-) -> Result<(Vec<Seat>, Vec<Vec<Sent>>), AllocError>
+) -> Result<(Vec<Seat>, Vec<SentFrames>), AllocError>
     ensures seats { IfOk result (λ r. r.0.items ≡ map (λ d. d.1.door) done.entry.items) }
     ensures sent { IfOk result (λ r.
         map (λ s. s.items) r.1.items ≡ map (λ d. d.0.sent.items) done.entry.items) }

@@ -15,7 +15,7 @@ use diag_gate::Door;
 use diag_pdu::{LinkSetup, Message, Request, Step};
 use diag_port::{Pace, TakeSteps};
 use diag_setup::{Setup, TesterId};
-use diag_tp::Sent;
+use diag_tp::SentFrames;
 use diag_world::Channel;
 use std::alloc::Global;
 
@@ -25,7 +25,7 @@ pub struct WorkerRecord<K = Journal> {
     /// What it asked, with the answers, in order.
     pub entries: K,
     /// The frames that it sent, in order, each with its time in ticks.
-    pub sent: Vec<Sent>,
+    pub sent: SentFrames,
 }
 
 /// Takes one tester's events, and asks its door for each step that they give.
@@ -121,7 +121,7 @@ impl<K: Keep> Worker<K> {
             entries: &mut self.entries,
             door,
         };
-        self.channel.take(who, event, &mut asking)
+        self.channel.take(who, &event.lent(), &mut asking)
     }
 }
 

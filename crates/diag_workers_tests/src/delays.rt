@@ -12,7 +12,7 @@ use diag_gate::{Door, Gate, GateDoor, Host, LockDoor};
 use diag_pdu::Step;
 use diag_setup::{Items, PatternItem, RawAnswer, Setup};
 use diag_stored::raw_two_testers;
-use diag_tp::Sent;
+use diag_tp::SentFrames;
 use diag_workers::{NoWatch, play};
 use diag_world::Played;
 use std::alloc::Global;
@@ -102,22 +102,17 @@ const PRESENCE_PENDING: [u8; 8] = [0x03, 0x7F, 0x3E, 0x78, 0xCC, 0xCC, 0xCC, 0xC
 const PRESENT: [u8; 8] = [0x02, 0x7E, 0x00, 0xCC, 0xCC, 0xCC, 0xCC, 0xCC];
 
 /// Whether the faster reply waited for the slower one before it, and its own response pending, too.
-fn has_waited(sent: &[Sent]) -> bool {
-    let [clearing, cleared, presence, present] = sent else {
-        return false;
-    };
-    is_frame(clearing, 50, 0x7E8, &CLEARING_PENDING)
-        && is_frame(cleared, 400, 0x7E8, &CLEARED)
-        && is_frame(presence, 400, 0x7E8, &PRESENCE_PENDING)
-        && is_frame(present, 400, 0x7E8, &PRESENT)
+fn has_waited(sent: &SentFrames) -> bool {
+    sent.len() == 4
+        && is_frame(sent, 0, 50, 0x7E8, &CLEARING_PENDING)
+        && is_frame(sent, 1, 400, 0x7E8, &CLEARED)
+        && is_frame(sent, 2, 400, 0x7E8, &PRESENCE_PENDING)
+        && is_frame(sent, 3, 400, 0x7E8, &PRESENT)
 }
 
 /// Whether response pending went, and the reply wasn't due yet.
-fn is_pending(sent: &[Sent]) -> bool {
-    match sent {
-        [pending] => is_frame(pending, 50, 0x7E9, &PRESENCE_PENDING),
-        _ => false,
-    }
+fn is_pending(sent: &SentFrames) -> bool {
+    sent.len() == 1 && is_frame(sent, 0, 50, 0x7E9, &PRESENCE_PENDING)
 }
 
 /// The journal has the replies at once, and replays.
@@ -126,11 +121,7 @@ fn is_slow_play(alloc: Global, setup: &Setup, played: &Played) -> Result<bool, T
     let [first, second] = played.sent.as_slice() else {
         return Ok(false);
     };
-    Ok(
-        has_waited(first.as_slice())
-            && is_pending(second.as_slice())
-            && played.desk.journal().len() == 5,
-    )
+    Ok(has_waited(first) && is_pending(second) && played.desk.journal().len() == 5)
 }
 
 fn slow_play_holds<R: Threads + Wait + Sync>(rt: &R, alloc: Global) -> Result<bool, Trouble> {

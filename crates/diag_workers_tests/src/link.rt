@@ -5,8 +5,8 @@ ghost use Rattle.std.specs.Prelude.{◌≡◌, IfOk, IsTrue, OnOk};
 ghost use Rattle.diag_tp.specs.Link.{is_frame, pending};
 
 use crate::trouble::{Trouble, holds};
-use diag_can::{Event, FrameBytes};
-use diag_pdu::{LinkSetup, Message, Pci, Request, frame_of};
+use diag_can::LentEvent;
+use diag_pdu::{Framing, LinkSetup, Message, Pci, Request, frame_of};
 use diag_setup::Setup;
 use diag_stored::two_testers;
 use diag_tp::Link;
@@ -46,7 +46,7 @@ fn is_read(asked: &Option<Request>) -> bool {
 }
 
 /// Whether taking a frame would give the read.
-fn would_read(link: &Link, event: &Event) -> Result<bool, Trouble>
+fn would_read(link: &Link, event: &LentEvent<'_>) -> Result<bool, Trouble>
     requires { IsTrue (is_frame event.now) }
 {
     let asked = link.peek(event)?;
@@ -54,7 +54,7 @@ fn would_read(link: &Link, event: &Event) -> Result<bool, Trouble>
 }
 
 /// Whether the read is told before its frame comes, and as it comes; then its reply is placed.
-fn reads(alloc: Global, link: &mut Link, event: &Event) -> Result<bool, Trouble>
+fn reads(alloc: Global, link: &mut Link, event: &LentEvent<'_>) -> Result<bool, Trouble>
     requires frame { IsTrue (is_frame event.now) }
     requires drained { pending link.old.state ≡ 0 }
 {
@@ -70,7 +70,7 @@ fn reads(alloc: Global, link: &mut Link, event: &Event) -> Result<bool, Trouble>
 fn drain(link: &mut Link)
     ensures { pending link.new.state ≡ 0 }
 {
-    while let Some(_frame) = link.next_frame() {}
+    while let Some(_frame) = link.next_long_frame() {}
 }
 
 /// The read, and the frames that are due then.
@@ -78,8 +78,7 @@ fn reads_once(alloc: Global, link: &mut Link) -> Result<bool, Trouble>
     requires { pending link.old.state ≡ 0 }
     ensures { OnOk result (pending link.new.state ≡ 0) }
 {
-    let event = Event::Physical(FrameBytes::from_slice(b"\x03\x22\xF1\x90"));
-    let read = reads(alloc, link, &event)?;
+    let read = reads(alloc, link, &LentEvent::physical(b"\x03\x22\xF1\x90"))?;
     drain(link);
     Ok(read)
 }
@@ -117,7 +116,7 @@ const LONG: [u8; 5001] = [0x22; 5001];
 
 /// Whether the last frame of the message is this one, and is read as what it is.
 fn ends_in_one_byte(message: &Message) -> bool {
-    match frame_of(message, 715, Some(0xCC)) {
+    match frame_of(message, 715, &Framing::classic(Some(0xCC))) {
         Some(frame) => {
             let kind = Pci::read(frame.as_slice(), 4095);
             frame.as_slice() == b"\x2B\x22\xCC\xCC\xCC\xCC\xCC\xCC".as_slice()

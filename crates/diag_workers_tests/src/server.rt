@@ -3,19 +3,19 @@
 ghost use Rattle.std.specs.Prelude.{◌≡◌, ◌≤◌, length};
 
 use crate::trouble::{Trouble, holds};
-use diag_can::{CanId, Event, Frame, FrameBytes, Ids, TickCount};
+use diag_can::{CanId, Frame, FrameBytes, Ids, LentEvent, TickCount};
 use diag_setup::{Setup, TesterId};
 use diag_stored::two_testers;
-use diag_tp::Sent;
+use diag_tp::{SentFrame, SentFrames};
 use diag_world::{NoJournal, Server};
 use std::alloc::Global;
 
 /// What a frame of the bus is for a tester with these identifiers, if anything.
-fn event_for(ids: &Ids, frame: &Frame) -> Option<Event> {
+fn event_for<'f>(ids: &Ids, frame: &'f Frame) -> Option<LentEvent<'f>> {
     if frame.id == ids.request {
-        Some(Event::Physical(frame.bytes.copy()))
+        Some(LentEvent::physical(frame.bytes.as_slice()))
     } else if frame.id == ids.functional {
-        Some(Event::Functional(frame.bytes.copy()))
+        Some(LentEvent::functional(frame.bytes.as_slice()))
     } else {
         None
     }
@@ -26,8 +26,8 @@ fn event_for(ids: &Ids, frame: &Frame) -> Option<Event> {
 fn take(
     server: &mut Server,
     who: TesterId,
-    event: &Event,
-    out: &mut Vec<Sent>,
+    event: &LentEvent<'_>,
+    out: &mut SentFrames,
 ) -> Result<(), Trouble>
     requires { who ≤ length server.old.ports }
     ensures { length server.new.ports ≡ length server.old.ports }
@@ -44,7 +44,7 @@ fn take_frame(
     server: &mut Server,
     setup: &Setup,
     frame: &Frame,
-    out: &mut Vec<Sent>,
+    out: &mut SentFrames,
 ) -> Result<(), Trouble>
     requires { length server.old.ports ≡ length setup.now.testers }
     ensures { length server.new.ports ≡ length server.old.ports }
@@ -65,7 +65,7 @@ fn pass(
     server: &mut Server,
     setup: &Setup,
     count: TickCount,
-    out: &mut Vec<Sent>,
+    out: &mut SentFrames,
 ) -> Result<(), Trouble>
     requires { length server.old.ports ≡ length setup.now.testers }
     ensures { length server.new.ports ≡ length server.old.ports }
@@ -74,7 +74,7 @@ fn pass(
         let Some(who) = setup.who(index) else {
             unreachable!()
         };
-        take(server, who, &Event::Ticks(count), out)?;
+        take(server, who, &LentEvent::ticks(count), out)?;
     }
     Ok(())
 }
@@ -120,7 +120,7 @@ fn hear(
     server: &mut Server,
     setup: &Setup,
     heard: &Heard,
-    out: &mut Vec<Sent>,
+    out: &mut SentFrames,
 ) -> Result<(), Trouble>
     requires { length server.old.ports ≡ length setup.now.testers }
     ensures { length server.new.ports ≡ length server.old.ports }
@@ -133,7 +133,7 @@ fn hear(
     Ok(())
 }
 
-fn hear_all(server: &mut Server, setup: &Setup, out: &mut Vec<Sent>) -> Result<(), Trouble>
+fn hear_all(server: &mut Server, setup: &Setup, out: &mut SentFrames) -> Result<(), Trouble>
     requires { length server.old.ports ≡ length setup.now.testers }
 {
     for heard in &HEARD {
@@ -142,15 +142,15 @@ fn hear_all(server: &mut Server, setup: &Setup, out: &mut Vec<Sent>) -> Result<(
     Ok(())
 }
 
-fn is_drawn(sent: &Sent, drawn: &Drawn) -> bool {
+fn is_drawn(sent: &SentFrame<'_>, drawn: &Drawn) -> bool {
     let (at, id, bytes) = *drawn;
-    sent.at == at && sent.frame.id.get() == id && sent.frame.bytes.as_slice() == bytes
+    sent.at == at && sent.id.get() == id && sent.bytes == bytes
 }
 
 /// Whether these frames were sent.
-fn are_sent(out: &[Sent]) -> bool {
-    for (sent, drawn) in out.iter().zip(&SENT) {
-        if !is_drawn(sent, drawn) {
+fn are_sent(out: &SentFrames) -> bool {
+    for (index, drawn) in SENT.iter().enumerate() {
+        if index >= out.len() || !is_drawn(&out.get(index), drawn) {
             return false;
         }
     }
@@ -160,9 +160,9 @@ fn are_sent(out: &[Sent]) -> bool {
 fn all_are_sent(alloc: Global, server: &mut Server, setup: &Setup) -> Result<bool, Trouble>
     requires { length server.old.ports ≡ length setup.now.testers }
 {
-    let mut out = Vec::new(alloc);
+    let mut out = SentFrames::new(alloc);
     hear_all(server, setup, &mut out)?;
-    Ok(are_sent(out.as_slice()))
+    Ok(are_sent(&out))
 }
 
 fn serves(alloc: Global, setup: &Setup) -> Result<bool, Trouble> {

@@ -6,23 +6,23 @@ ghost use Rattle.diag_tp.specs.Link.{is_frame, pending, quiet};
 use crate::ecu::opened as opened_ecu;
 use crate::link::opened as opened_link;
 use crate::trouble::{Trouble, holds};
-use diag_can::{Event, Frame, FrameBytes, TickCount};
+use diag_can::{LentEvent, TickCount};
 use diag_ecu::Ecu;
 use diag_pdu::{Message, Request};
 use diag_setup::TesterId;
-use diag_tp::Link;
+use diag_tp::{FdFrame, Link};
 use std::alloc::{AllocError, Global};
 
 /// What puts frames on the bus.
 trait Driver {
-    fn send(&mut self, frame: Frame);
+    fn send(&mut self, frame: FdFrame);
 }
 
 /// Sends the frames that are due.
 fn send_due<D: Driver>(link: &mut Link, driver: &mut D)
     ensures { pending link.new.state ≡ 0 }
 {
-    while let Some(frame) = link.next_frame() {
+    while let Some(frame) = link.next_long_frame() {
         driver.send(frame);
     }
 }
@@ -46,7 +46,7 @@ fn take<D: Driver>(
     link: &mut Link,
     ecu: &mut Ecu,
     who: TesterId,
-    event: &Event,
+    event: &LentEvent<'_>,
     driver: &mut D,
 ) -> Result<(), AllocError>
     requires frame { IsTrue (is_frame event.now) }
@@ -78,12 +78,12 @@ fn pass<D: Driver>(link: &mut Link, ecu: &mut Ecu, who: TesterId, count: TickCou
 /// Keeps the frames that are sent, unless memory is refused.
 #[derive(Drop)]
 struct Recorder {
-    frames: Vec<Frame>,
+    frames: Vec<FdFrame>,
     is_refused: bool,
 }
 
 impl Driver for Recorder {
-    fn send(&mut self, frame: Frame) {
+    fn send(&mut self, frame: FdFrame) {
         if self.frames.push(frame).is_err() {
             self.is_refused = true;
         }
@@ -101,7 +101,7 @@ impl Recorder {
 }
 
 /// Whether these frames were sent, with the first tester's identifier.
-fn are_sent(sent: &[Frame], frames: &[&[u8]]) -> bool {
+fn are_sent(sent: &[FdFrame], frames: &[&[u8]]) -> bool {
     for (sent, bytes) in sent.iter().zip(frames) {
         if sent.id.get() != 0x7E8 || sent.bytes.as_slice() != *bytes {
             return false;
@@ -122,8 +122,8 @@ fn ask(link: &mut Link, ecu: &mut Ecu, who: TesterId, sent: &mut Recorder) -> Re
     requires { pending link.old.state ≡ 0 }
     ensures { pending link.new.state ≡ 0 }
 {
-    let read = Event::Physical(FrameBytes::from_slice(b"\x03\x22\xF1\x90"));
-    let flow = Event::Physical(FrameBytes::from_slice(b"\x30\x00\x05"));
+    let read = LentEvent::physical(b"\x03\x22\xF1\x90");
+    let flow = LentEvent::physical(b"\x30\x00\x05");
     take(link, ecu, who, &read, sent)?;
     take(link, ecu, who, &flow, sent)
 }

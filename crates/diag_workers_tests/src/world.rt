@@ -3,7 +3,7 @@
 ghost use Rattle.std.specs.Prelude.{◌≡◌, ◌≤◌, length};
 
 use crate::trouble::{Trouble, holds};
-use diag_can::{Event, read_line, write_line};
+use diag_can::{LentEvent, read_line, write_line};
 use diag_desk::{StepFault, journal_text};
 use diag_setup::{Setup, TesterId};
 use diag_stored::{PLAYED, two_testers};
@@ -28,7 +28,7 @@ const TURNS: [(usize, &[u8]); 13] = [
 ];
 
 /// Gives an event, and where memory is refused gives it once more.
-fn give(world: &mut World, who: TesterId, event: &Event) -> Result<(), StepFault>
+fn give(world: &mut World, who: TesterId, event: &LentEvent<'_>) -> Result<(), StepFault>
     requires { who ≤ length world.old.sent }
     ensures { length world.new.sent ≡ length world.old.sent }
 {
@@ -47,7 +47,7 @@ fn give_line(world: &mut World, setup: &Setup, index: usize, line: &[u8]) -> Res
         return Err(Trouble::Wrong);
     };
     match read_line(line, &setup.ids(who)) {
-        Ok(Some(event)) => Ok(give(world, who, &event)?),
+        Ok(Some(event)) => Ok(give(world, who, &event.lent())?),
         _ => Err(Trouble::Wrong),
     }
 }
@@ -69,8 +69,17 @@ fn add_frames(text: &mut Vec<u8>, world: &World, setup: &Setup, index: usize) ->
     let Some(who) = setup.who(index) else {
         return Err(Trouble::Wrong);
     };
-    for sent in world.sent(who) {
-        write_line(text, setup.name(who), sent.at, &sent.frame)?;
+    let sent = world.sent(who);
+    for index in 0..sent.len() {
+        let frame = sent.get(index);
+        write_line(
+            text,
+            setup.name(who),
+            setup.flags(who),
+            frame.at,
+            frame.id,
+            frame.bytes,
+        )?;
     }
     Ok(())
 }

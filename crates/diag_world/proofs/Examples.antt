@@ -2,6 +2,7 @@
 use Rattle.std.proofs.Common.{◌≡◌, ℕ, false, None, Some, List, [], ◌∷◌, refl}
 use Rattle.diag_can.specs.declared.frame.Event.{Event}
 use Rattle.diag_can.specs.declared.frame.Event.TheVariants.{Physical, Ticks}
+use Rattle.diag_pdu.specs.declared.length.DataLength.TheVariants.{Dl8}
 use Rattle.diag_pdu.specs.declared.setup.LinkSetup.{LinkSetup}
 use Rattle.diag_pdu.specs.declared.step.Step.TheVariants as step
 use Rattle.diag_pdu.specs.Request.{request_of}
@@ -19,7 +20,7 @@ links t = record {
   block_size = 0;
   st_min = 0;
   max_request = 4095;
-  pad = None;
+  framing = record { tx_dl = Dl8; pad = None; fill = 0 };
   n_bs = 1000;
   n_cr = 1000;
 }

@@ -14,18 +14,18 @@ ghost use Rattle.diag_tp.specs.Gives.{gives};
 ghost use Rattle.diag_port.specs.Fault.{IsFaultBy};
 ghost use Rattle.diag_world.specs.Channel.{channel_of, IsResting, ChannelTook, EachChannelRun, ChannelStands};
 
-use diag_can::Event;
+use diag_can::LentEvent;
 use diag_pdu::LinkSetup;
 use diag_port::{Pace, Port, TakeSteps, take};
 use diag_setup::TesterId;
-use diag_tp::Sent;
+use diag_tp::SentFrames;
 use std::alloc::Global;
 
 /// One tester's port, and the frames that the tester was sent.
 #[derive(Drop)]
 pub struct Channel {
     port: Port,
-    sent: Vec<Sent>,
+    sent: SentFrames,
 }
 
 impl Channel {
@@ -36,12 +36,12 @@ impl Channel {
     {
         Channel {
             port: Port::new(alloc, setup, pace),
-            sent: Vec::new(alloc),
+            sent: SentFrames::new(alloc),
         }
     }
 
     /// Whether an event gives a step.
-    pub(crate) fn gives_step(&self, event: &Event) -> bool
+    pub(crate) fn gives_step(&self, event: &LentEvent<'_>) -> bool
         ensures { EachChannelRun (channel_of self.now) (λ s pace E T.
             IsTrue result ↔ IsSome (gives s E event.now)) }
     {
@@ -52,7 +52,7 @@ impl Channel {
     pub fn take<T: TakeSteps>(
         &mut self,
         who: TesterId,
-        event: &Event,
+        event: &LentEvent<'_>,
         taker: &mut T,
     ) -> Result<(), T::Fault>
         requires rest { IsResting self.old }
@@ -70,14 +70,14 @@ impl Channel {
     }
 
     /// The frames that were sent, in order.
-    pub(crate) fn sent(&self) -> &[Sent]
-        ensures { result.now ≡ (channel_of self.now).sent }
+    pub(crate) fn sent(&self) -> &SentFrames
+        ensures { result.now.items ≡ (channel_of self.now).sent }
     {
-        self.sent.as_slice()
+        &self.sent
     }
 
     /// The frames that were sent, in order.
-    pub fn into_sent(self) -> Vec<Sent>
+    pub fn into_sent(self) -> SentFrames
         ensures { result.items ≡ (channel_of self).sent }
     {
         let Channel { port: _, sent } = self;

@@ -12,7 +12,7 @@ use crate::world::World;
 use diag_can::Event;
 use diag_desk::{Desk, StepFault};
 use diag_setup::Setup;
-use diag_tp::Sent;
+use diag_tp::SentFrames;
 use std::alloc::Global;
 
 /// What a play leaves: the desk, and the frames that each tester was sent, in the testers' order.
@@ -21,7 +21,7 @@ pub struct Played {
     /// The ECU and the journal.
     pub desk: Desk,
     /// The frames of each tester.
-    pub sent: Vec<Vec<Sent>>,
+    pub sent: Vec<SentFrames>,
 }
 
 /// Plays the testers' logs on one thread: one event of each in turn, in the testers' order, a log that has ended being

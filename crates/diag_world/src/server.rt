@@ -34,13 +34,13 @@ ghost use Rattle.diag_world.specs.Server.{closing_time, quiet_of, server_of, Are
 
 use crate::keeper::Keeper;
 use crate::lazy_port::LazyPort;
-use diag_can::{Event, TickCount};
+use diag_can::{LentEvent, TickCount};
 use diag_ecu::Ecu;
 use diag_pdu::{Message, Request};
 use diag_port::{Pace, Port, TakeSteps, take};
 use diag_setup::{Setup, TesterId};
 use diag_store::DidFault;
-use diag_tp::Sent;
+use diag_tp::SentFrames;
 use std::alloc::{AllocError, Global};
 use std::marker::Model;
 
@@ -115,9 +115,9 @@ impl Server {
     pub fn take<K: Keeper>(
         &mut self,
         who: TesterId,
-        event: &Event,
+        event: &LentEvent<'_>,
         keeper: &mut K,
-        out: &mut Vec<Sent>,
+        out: &mut SentFrames,
     ) -> Result<(), K::Fault>
         requires in_setup { who ≤ length self.old.ports }
         requires early { IsEarly self.old (who - 1) }
@@ -301,9 +301,9 @@ fn take_at<K: Keeper>(
     port: &mut Port,
     ecu: &mut Ecu,
     who: TesterId,
-    event: &Event,
+    event: &LentEvent<'_>,
     keeper: &mut K,
-    out: &mut Vec<Sent>,
+    out: &mut SentFrames,
 ) -> Result<(), K::Fault>
     requires rest { IsAtRest port.old }
     requires early { port.old.link.state.now ≤ closing_time }

@@ -6,7 +6,7 @@ ghost use Rattle.diag_desk.specs.Entry.{most_entries};
 ghost use Rattle.diag_setup.specs.Setup.{link_of};
 ghost use Rattle.diag_world.specs.Weaving.{first_of_each, longest, steps_of, turns};
 
-use diag_can::Event;
+use diag_can::{Event, LentEvent};
 use diag_desk::StepFault;
 use diag_setup::{Setup, TesterId};
 
@@ -30,7 +30,7 @@ pub trait TakeEvents {
     /// # Errors
     /// `JournalFull` where the events give more steps than a journal has entries, `Memory` where memory is refused. It can
     /// take no more then.
-    fn take_event(&mut self, who: TesterId, event: &Event) -> Result<(), StepFault>
+    fn take_event(&mut self, who: TesterId, event: &LentEvent<'_>) -> Result<(), StepFault>
         requires in_setup { (terms : Terms)
             × (M : List (ℕ × AnEvent))
             × took self.old terms M
@@ -111,7 +111,7 @@ fn take_round<T: TakeEvents>(
             let Some(who) = setup.who(index) else {
                 unreachable!()
             };
-            taker.take_event(who, &log[round])?;
+            taker.take_event(who, &log[round].lent())?;
         }
     }
     Ok(())

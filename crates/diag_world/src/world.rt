@@ -28,12 +28,12 @@ ghost use Rattle.diag_world.specs.World.{EachInterleaving, Stands, Took};
 use crate::channel::Channel;
 use crate::serial_play::Played;
 use crate::taking::TakeEvents;
-use diag_can::Event;
+use diag_can::LentEvent;
 use diag_desk::{Desk, Journal, StepFault};
 use diag_ecu::Ecu;
 use diag_port::Pace;
 use diag_setup::{Setup, TesterId};
-use diag_tp::Sent;
+use diag_tp::SentFrames;
 use std::alloc::{AllocError, Global};
 use std::marker::Model;
 
@@ -76,7 +76,7 @@ impl World {
     ///
     /// JournalFull comes where the event gives a step and the journal is full, which is looked at first; else all
     /// growths come before the step is taken.
-    pub fn event(&mut self, who: TesterId, event: &Event) -> Result<(), StepFault>
+    pub fn event(&mut self, who: TesterId, event: &LentEvent<'_>) -> Result<(), StepFault>
         requires in_setup { who ≤ length self.old.sent }
         ensures ok { OnOk result (EachInterleaving self.old (λ setup M.
             Stands setup self.new (M ++ (who, event.now) ∷ []))) }
@@ -114,9 +114,9 @@ impl World {
     }
 
     /// The frames that were sent to a tester, in order.
-    pub fn sent(&self, who: TesterId) -> &[Sent]
+    pub fn sent(&self, who: TesterId) -> &SentFrames
         requires in_setup { who ≤ length self.now.sent }
-        ensures { EachInterleaving self.now (λ setup M. result.now ≡ drawn
+        ensures { EachInterleaving self.now (λ setup M. result.now.items ≡ drawn
             (link_of setup who) (pace_of setup) (items_of M who)
             (own_timed (timed self.now.desk.opening self.now.desk.journal) who)) }
     {
@@ -145,13 +145,13 @@ impl TakeEvents for World {
 
     ghost took = { λ world setup M. Stands setup world M };
 
-    fn take_event(&mut self, who: TesterId, event: &Event) -> Result<(), StepFault> {
+    fn take_event(&mut self, who: TesterId, event: &LentEvent<'_>) -> Result<(), StepFault> {
         self.event(who, event)
     }
 }
 
 /// The frames of each channel, in order.
-fn sent_of(alloc: Global, channels: Vec<Channel>) -> Result<Vec<Vec<Sent>>, AllocError>
+fn sent_of(alloc: Global, channels: Vec<Channel>) -> Result<Vec<SentFrames>, AllocError>
     ensures { IfOk result (λ sent. map (λ s. s.items) sent.items
         ≡ map (λ channel. channel.sent) (map channel_of channels.items)) }
 {
@@ -168,7 +168,7 @@ fn take(
     desk: &mut Desk,
     channel: &mut Channel,
     who: TesterId,
-    event: &Event,
+    event: &LentEvent<'_>,
 ) -> Result<(), StepFault>
     requires rest { IsResting channel.old }
     ensures ok { OnOk result

@@ -5,7 +5,7 @@ ghost use Rattle.std.specs.Prelude.{◌≡◌, ◌≤◌, ◌==◌, length, IfOk
 ghost use Rattle.diag_can.specs.BusLine.{HasNoFeed, bus_line};
 ghost use Rattle.uds_play.specs.FlowLines.{is_flow, reads_flow, says_flow};
 
-use diag_can::{BusLine, CanId, LONGEST_LINE, first_line, read_bus_line};
+use diag_can::{BusLine, CanId, FrameText, KnownId, LONGEST_LINE, first_line, read_bus_line};
 use diag_setup::Setup;
 use std::alloc::{AllocError, Global};
 
@@ -14,8 +14,8 @@ use std::alloc::{AllocError, Global};
 pub struct FlowLines {
     /// The identifiers of the testers' requests.
     requests: Vec<CanId>,
-    /// The identifiers of 29 bits that are read.
-    known: Vec<CanId>,
+    /// The identifiers of which lines are read that are passed over otherwise: of 29 bits, or by CAN FD.
+    known: Vec<KnownId>,
     /// The line that is begun, where it may still become one; a line that is too long never does.
     begun: Vec<u8>,
 }
@@ -109,7 +109,7 @@ impl FlowLines {
         else {
             return false;
         };
-        self.is_request(frame.id()) && is_flow_control(frame.bytes().as_slice())
+        self.is_request(frame.id()) && says_flow_control(frame)
     }
 
     /// Whether an identifier is that of a tester's requests.
@@ -118,6 +118,16 @@ impl FlowLines {
     {
         self.requests.iter().any(|request| *request == id)
     }
+}
+
+/// Whether a frame of either kind is flow control.
+fn says_flow_control(frame: &FrameText) -> bool
+    ensures { result ≡ is_flow frame.now.bytes }
+{
+    if frame.is_long() {
+        return is_flow_control(frame.long_bytes().as_slice());
+    }
+    is_flow_control(frame.bytes().as_slice())
 }
 
 /// Whether a frame is flow control, by the high half of its first byte (9.6.5.1).

@@ -186,6 +186,12 @@ impl Notes<'_> {
             return Ok(());
         }
         let report = check(rt.alloc(), text.as_slice())?;
+        if report.faults.is_empty() && self.kind == FileKind::Logs {
+            note(
+                rt,
+                "serial and play read logs of classic frames: bus takes a recording with frames of CAN FD",
+            );
+        }
         for finding in report.faults.iter().take(MOST_FAULTS) {
             let config = self.config;
             let line = format!(in rt.alloc(); "{config}: {finding}")?;
@@ -427,6 +433,7 @@ fn note_unseen<R: Eprint + AllocGlobal>(
                 response: tester.response,
                 functional: functional_number(setup, tester),
                 extended: tester.extended,
+                fd: tester.fd,
             })?;
         }
     }

@@ -19,7 +19,7 @@ use Rattle.diag_world.specs.Server.{ServerView, ServesFrom, WasSet, each_of, sen
 use Rattle.diag_bus.specs.Events.{frame_to, said_gives}
 use Rattle.diag_bus.specs.Node.{IsBy, TookTime}
 use Rattle.diag_bus.specs.Text.{gathered, time_of}
-use Rattle.diag_bus.specs.declared.writing.Drawn.{Drawn}
+use Rattle.diag_bus.specs.Drawn.{Drawn}
 use Rattle.uds_unit.specs.Device.{AreSound, DeviceState, IsClock, Stands, TookCall, latest_ms}
 use Rattle.uds_unit.specs.Node.{Drew, Gave, IsReady, SameShape, lists_of}
 use Rattle.uds_unit.specs.History.{Call, At, History, all_more, beginning, entries_in, frames_more, gone_on, history, journal_of, next_of, sent_in, set_to, taken, timed_of}

@@ -18,7 +18,7 @@ use Rattle.diag_world.specs.Server.{each_of}
 use Rattle.diag_world.specs.Weaving.{all_by, steps_of}
 use Rattle.diag_bus.specs.Events.{events_of, frame_to, gives_if_well, moment_said, reference, said_gives, time_said}
 use Rattle.diag_bus.specs.Text.{answered, frames_by, line_of, line_text, start_after, start_said, text_after}
-use Rattle.diag_bus.specs.declared.writing.Drawn.{Drawn}
+use Rattle.diag_bus.specs.Drawn.{Drawn}
 use Rattle.diag_bus.proofs.Lines.{events_push, reference_more}
 use Rattle.uds_unit.specs.AsBus.{AsBusLaw, Say, Says, calls_of}
 use Rattle.uds_unit.specs.History.{History, history_after}

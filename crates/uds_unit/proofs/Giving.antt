@@ -6,6 +6,7 @@ use Rattle.std.specs.Prelude.{IfSome, slice_get, slice_set}
 use Rattle.std.specs.Option.{option_map, option_to_list}
 use Rattle.std.specs.Vec.{with_item}
 use Rattle.diag_can.specs.declared.frame.Event.{Event}
+use Rattle.diag_tp.specs.SentFrames.{SentList}
 use Rattle.diag_tp.specs.declared.sent.Sent.{Sent}
 use Rattle.diag_tp.specs.Link.{last_tick}
 use Rattle.diag_tp.specs.Moments.{last_time}
@@ -48,17 +49,17 @@ clock_told opened T setup server M K who i port asked h is found early by =
 -- ---- one event more
 
 -- the call with this list at a place
-abbrev pub node_with : Node → ServerView → ℕ → Vec Sent Global → Vec ℕ Global → Node
+abbrev pub node_with : Node → ServerView → ℕ → SentList → Vec ℕ Global → Node
 node_with old server i list text = record { server = server; wanted = old.wanted; drawn = with_item old.drawn i list; text = text }
 
 -- the list of the tester `who` stands at its place i
-pub record IsListAt (old : Node) (who i : ℕ) (list : Vec Sent Global) : Type 0 where
+pub record IsListAt (old : Node) (who i : ℕ) (list : SentList) : Type 0 where
   pub is : who ≡ i + 1
   pub within : i < length old.drawn.items
   pub read : list ≡ get_or old.drawn.items i list
 
 -- the tester's list stands where it was read
-pub list_at : (old : Node) {who i : ℕ} {list : Vec Sent Global} → who ≤ length old.server.ports → length old.drawn.items ≡ length old.server.ports
+pub list_at : (old : Node) {who i : ℕ} {list : SentList} → who ≤ length old.server.ports → length old.drawn.items ≡ length old.server.ports
     → who ≡ i + 1 → list ≡ get_or old.drawn.items i list → IsListAt old who i list
 list_at old in_setup lists is read = record { is = is; within = omega (arith, in_setup, lists, is); read = read }
 
@@ -73,7 +74,7 @@ ports_same old new same =
     sym (length-map new.ports port_of) ∙ (ap (λ (s : ServerState). length s.ports) same ∙ length-map old.ports port_of)
 
 -- a call with another list in its place
-module _ {old : Node} {who i : ℕ} {list : Vec Sent Global} (here : IsListAt old who i list) where
+module _ {old : Node} {who i : ℕ} {list : SentList} (here : IsListAt old who i list) where
   -- the frames that were drawn
   found : slice_get (lists_of old) i ≡ Some list.items
   found =
@@ -82,13 +83,13 @@ module _ {old : Node} {who i : ℕ} {list : Vec Sent Global} (here : IsListAt ol
       ∙ ap (option_map (λ f. f.items)) (slice_get_read drawn (length drawn) i list refl here.within here.read)
 
   -- and those with more behind them
-  grown : (list' : Vec Sent Global) (more : List Sent) → list'.items ≡ list.items ++ more
+  grown : (list' : SentList) (more : List Sent) → list'.items ≡ list.items ++ more
       → map (λ f. f.items) (slice_set old.drawn.items i list') ≡ slice_set (lists_of old) i (list.items ++ more)
   grown list' more is =
       map-set (λ f. f.items) old.drawn.items i list' ∙ ap (λ (w : List Sent). slice_set (lists_of old) i w) is
 
   -- the shape that it had, where the event was refused
-  pub shape_refused : (server : ServerView) (list' : Vec Sent Global) (text : Vec ℕ Global) → server_of server ≡ server_of old.server
+  pub shape_refused : (server : ServerView) (list' : SentList) (text : Vec ℕ Global) → server_of server ≡ server_of old.server
       → SameShape old (node_with old server i list' text)
   shape_refused server list' text same = record {
     ports = ports_same old.server server same;
@@ -98,7 +99,7 @@ module _ {old : Node} {who i : ℕ} {list : Vec Sent Global} (here : IsListAt ol
 
   -- the server took the event: the tester's list has grown by the frames, and the others are as they were; the entry was
   -- written
-  module _ (server : ServerView) (list' : Vec Sent Global) (text : Vec ℕ Global) {e : Event} {asked : Option Entry} {more : List Sent}
+  module _ (server : ServerView) (list' : SentList) (text : Vec ℕ Global) {e : Event} {asked : Option Entry} {more : List Sent}
       (settled : Settled (server_of old.server) (server_of server) who e asked more) where
     pub gave_one : list'.items ≡ list.items ++ more → settled.moved.before.link.now ≤ closing_time → IfSome asked (λ k. k.who ≡ who)
         → text.items ≡ old.text.items ++ entry_added old.wanted settled.moved.before.link.now asked

@@ -1,7 +1,8 @@
 -- What C's calls do to a unit, and what they answer.
-use Rattle.std.specs.Prelude.{◌≡◌, ℕ, ◌+◌, ◌-◌, ◌^◌, ◌<◌, ◌≤◌, ◌⊎◌, ◌&&◌, nat_le, nat_lt, codes, take, Bool, List, [], ◌∷◌, ◌++◌, length, drop, replicate, Option, Some, None, Result, Ok, Err, if◌then◌else◌}
+use Rattle.std.specs.Prelude.{◌≡◌, ℕ, ◌+◌, ◌-◌, ◌^◌, ◌<◌, ◌≤◌, ◌⊎◌, ◌&&◌, ◌||◌, nat_le, nat_lt, codes, take, Bool, List, [], ◌∷◌, ◌++◌, length, drop, replicate, Option, Some, None, Result, Ok, Err, if◌then◌else◌}
 use Rattle.std.specs.Option.{option_map}
 use Rattle.diag_can.specs.Identifier.{extended, is_extended, number_of}
+use Rattle.diag_can.specs.Line.{is_fd_among, is_fd_length}
 use Rattle.diag_can.specs.declared.frame.Frame.{Frame}
 use Rattle.diag_config.specs.Fault.{Fails}
 use Rattle.diag_config.specs.Setup.{setup_of}
@@ -9,9 +10,11 @@ use Rattle.diag_config.specs.Text.{config_fault_text}
 use Rattle.diag_config.specs.declared.fault.ConfigFault.{ConfigFault}
 use Rattle.diag_config.specs.declared.fault.ConfigFault.TheVariants as config
 use Rattle.diag_ecu.specs.State.{State, session_of}
+use Rattle.diag_setup.specs.Setup.{is_fd_of, known_ids}
+use Rattle.diag_setup.specs.declared.raw.RawSetup.{RawSetup}
 use Rattle.diag_store.specs.declared.dids.DidFault.{DidFault}
 use Rattle.diag_store.specs.declared.dids.DidFault.TheVariants.{Unknown, Length}
-use Rattle.diag_bus.specs.declared.writing.Drawn.{Drawn}
+use Rattle.diag_bus.specs.Drawn.{Drawn}
 use Rattle.uds_unit.specs.Device.{DeviceState, HandedOut, Ran, SameUnit, ToldJournal, TookCall}
 use Rattle.uds_unit.specs.History.{At, Call}
 use Rattle.uds_unit.specs.Moments.{moment_us, start_of}
@@ -55,10 +58,19 @@ identifier_of id =
 abbrev pub told_id : ℕ → ℕ
 told_id id = if is_extended id then 2 ^ 31 + number_of id else number_of id
 
--- the frame with this identifier and these bytes, at most eight
+-- the frame with this identifier and these bytes, where a frame, classic or of CAN FD, can have so many
 abbrev pub frame_of : ℕ → List ℕ → Option Frame
 frame_of id bytes =
-    if nat_le (length bytes) 8 then option_map (λ id. record { id = id; bytes = bytes }) (identifier_of id) else None
+    if is_fd_length (length bytes) then option_map (λ id. record { id = id; bytes = bytes }) (identifier_of id) else None
+
+-- what a unit hears of it: one of more than eight bytes is of CAN FD, which is heard where its identifier is read by it
+abbrev pub heard : RawSetup → Frame → Option Frame
+heard setup frame =
+    if nat_le (length frame.bytes) 8 || is_fd_among (known_ids setup) frame.id then Some frame else None
+
+-- how C is told whether a frame is one of CAN FD
+abbrev pub told_fd : Bool → ℕ
+told_fd fd = if fd then 1 else 0
 
 -- ---- what is told
 
@@ -66,9 +78,9 @@ frame_of id bytes =
 abbrev pub CopiedInto : List ℕ → List ℕ → List ℕ → Type 0
 CopiedInto old new text = new ≡ take (length old) text ++ drop (length text) old
 
--- the eight bytes of a reply: those of a frame, and zeros behind them
-abbrev pub eight_of : List ℕ → List ℕ
-eight_of bytes = bytes ++ replicate (8 - length bytes) 0
+-- the 64 bytes of a reply: those of a frame, and zeros behind them
+abbrev pub all_of : List ℕ → List ℕ
+all_of bytes = bytes ++ replicate (64 - length bytes) 0
 
 -- a frame was handed out, and this tells it
 pub record HandedReply (old new : DeviceState) (reply : Reply) : Type 0 where
@@ -78,7 +90,8 @@ pub record HandedReply (old new : DeviceState) (reply : Reply) : Type 0 where
   pub id : reply.id ≡ told_id drawn.sent.frame.id
   pub tester : reply.tester ≡ drawn.who
   pub len : reply.len ≡ length drawn.sent.frame.bytes
-  pub bytes : reply.bytes ≡ eight_of drawn.sent.frame.bytes
+  pub fd : reply.fd ≡ told_fd (is_fd_of old.setup drawn.who)
+  pub bytes : reply.bytes ≡ all_of drawn.sent.frame.bytes
 
 -- the session and its holder, by its place from 1, or 0
 abbrev pub session_told : State → Option ℕ → Session
@@ -120,10 +133,10 @@ pub record Took (old new : DeviceState) (call : Call) (status : ℕ) : Type 0 wh
   pub took : status ≡ 0 → TookCall old new call
   pub same : SameUnit old new
 
--- the same of a moment with its frame, where there is one
+-- the same of a moment with what is heard of its frame, where there is one
 abbrev pub TookFrame : DeviceState → DeviceState → ℕ → Option Frame → ℕ → Type 0
 TookFrame old new moment None status = (status ≡ 18) × (new ≡ old)
-TookFrame old new moment (Some frame) status = Took old new (At moment (Some frame)) status
+TookFrame old new moment (Some frame) status = Took old new (At moment (heard old.setup frame)) status
 
 -- the ECU was set by this call, or the unit is as before
 pub record SetsOr (old new : DeviceState) (call : Call) (status : ℕ) : Type 0 where

@@ -3,7 +3,7 @@ use Rattle.std.specs.Prelude.{◌≡◌, ◌≤◌, ℕ, Bool, List, [], ◌∷�
 use Rattle.diag_setup.specs.declared.raw.RawSetup.{RawSetup}
 use Rattle.diag_world.specs.Server.{ServerView, ServesFrom, server_of}
 use Rattle.diag_bus.specs.Node.{IsBy}
-use Rattle.diag_bus.specs.declared.writing.Drawn.{Drawn}
+use Rattle.diag_bus.specs.Drawn.{Drawn}
 use Rattle.uds_unit.specs.History.{Call, History, entries_in, history, journal_of}
 use Rattle.uds_unit.specs.Journal.{entered}
 use Rattle.uds_unit.specs.Moments.{time_of_clock}

@@ -19,7 +19,7 @@ use Rattle.diag_world.specs.Server.{sent_by}
 use Rattle.diag_world.specs.Weaving.{steps_of}
 use Rattle.diag_bus.specs.Events.{said_gives}
 use Rattle.diag_bus.specs.Text.{answered, drawn_for, time_of}
-use Rattle.diag_bus.specs.declared.writing.Drawn.{Drawn}
+use Rattle.diag_bus.specs.Drawn.{Drawn}
 use Rattle.uds_unit.specs.Moments.{clock_at, reference_of}
 use Rattle.uds_unit.specs.declared.clock.Clock.{Clock}
 

@@ -1,7 +1,8 @@
 //! A unit on a bus: the server, the clock, and what is due.
 
 ghost use Rattle.std.specs.Prelude.{◌≡◌, ◌≤◌, [], length, IfOk, IfSome, IfNone, OnOk, OnErr, is_some, option_map, slice_get};
-ghost use Rattle.diag_setup.specs.Setup.{did_id};
+ghost use Rattle.diag_can.specs.Line.{is_fd_among};
+ghost use Rattle.diag_setup.specs.Setup.{did_id, is_fd_of, known_ids};
 ghost use Rattle.diag_store.specs.Dids.{write_answer};
 ghost use Rattle.diag_store.specs.Dtcs.{status_of};
 ghost use Rattle.diag_world.specs.Server.{quiet_of, server_of};
@@ -12,14 +13,15 @@ ghost use Rattle.uds_unit.specs.Moments.{due_us, start_of};
 
 use crate::clock::{Clock, moment_us};
 use crate::frames::queue_drawn;
+use crate::given::GivenFrame;
 use crate::node::Node;
 use diag_bus::{Drawn, RequestIds};
-use diag_can::Frame;
+use diag_can::CanId;
 use diag_desk::{JournalVersion, write_header};
 use diag_ecu::Ecu;
-use diag_setup::Setup;
+use diag_setup::{Setup, TesterId};
 use diag_store::DidFault;
-use diag_tp::Sent;
+use diag_tp::SentFrames;
 use diag_world::Server;
 use std::alloc::{AllocError, Global};
 use std::collections::VecDeque;
@@ -100,9 +102,9 @@ impl Device {
     ///
     /// # Errors
     /// Where memory is refused, or 2^40 replies wait. Then nothing is said of what the unit took.
-    pub fn take(&mut self, moment: u64, frame: Option<Frame>) -> Result<(), AllocError>
+    pub fn take(&mut self, moment: u64, frame: Option<GivenFrame<'_>>) -> Result<(), AllocError>
         requires { moment ≤ latest_ms }
-        ensures took { OnOk result (TookCall self.old self.new (At moment frame)) }
+        ensures took { OnOk result (TookCall self.old self.new (At moment frame.entry)) }
         ensures same { SameUnit self.old self.new }
     {
         let span = Clock::span(self.clock, moment);
@@ -112,7 +114,7 @@ impl Device {
         self.node.take(&self.setup, &self.ids, span, frame)?;
         queue_drawn(
             &self.setup,
-            &mut self.node.drawn,
+            self.node.drawn.as_slice(),
             &mut self.batch,
             &mut self.waiting,
         )
@@ -126,6 +128,23 @@ impl Device {
         ensures clock { self.new.clock ≡ self.old.clock }
     {
         self.waiting.pop_front()
+    }
+
+    /// Whether frames of more than 8 bytes are read of an identifier: it is that of a tester that talks by CAN FD.
+    pub fn reads_long(&self, id: CanId) -> bool
+        ensures { result ≡ is_fd_among (known_ids self.now.setup) id }
+    {
+        self.ids.known().iter().any(|k| k.id == id && k.fd)
+    }
+
+    /// Whether a tester and the unit talk by CAN FD.
+    pub fn is_fd(&self, who: TesterId) -> bool
+        ensures { result ≡ is_fd_of self.now.setup who }
+    {
+        match self.setup.raw().testers.as_slice().get(who.index()) {
+            Some(tester) => tester.fd,
+            None => false,
+        }
     }
 
     /// The text of the journal that was not handed out.
@@ -203,12 +222,12 @@ impl Device {
 }
 
 /// So many empty lists.
-fn empty_lists(alloc: Global, count: usize) -> Result<Vec<Vec<Sent>>, AllocError>
+fn empty_lists(alloc: Global, count: usize) -> Result<Vec<SentFrames>, AllocError>
     ensures { IfOk result (λ lists. length lists.items ≡ count) }
 {
     let mut lists = Vec::new(alloc);
     for made in 0..count {
-        lists.push(Vec::new(alloc))?;
+        lists.push(SentFrames::new(alloc))?;
     }
     Ok(lists)
 }

@@ -1,22 +1,24 @@
 //! What C calls.
 
 ghost use Rattle.std.specs.Prelude.{◌≡◌, ◌≤◌, ◌<◌, ◌/◌, ◌++◌, ◌∷◌, [], false, true, length, None, Some, IfOk, IfErr, IfSome, IsSome, option_map, slice_get, ◌⊎◌};
+ghost use Rattle.diag_can.specs.Line.{is_fd_length};
 ghost use Rattle.diag_config.specs.Setup.{setup_of};
 ghost use Rattle.diag_config.specs.Fault.{Fails};
 ghost use Rattle.diag_setup.specs.Setup.{did_id};
 ghost use Rattle.diag_store.specs.Dids.{value_of, write_answer};
 ghost use Rattle.diag_store.specs.Dtcs.{row_pair, status_of};
 ghost use Rattle.diag_world.specs.Server.{quiet_of, server_of};
-ghost use Rattle.uds_unit.specs.Calls.{Both, CopiedInto, CopiesWhole, HandedReply, Opened, Refused, Sets, SetsOr, TellsCode, TellsFault, TellsNumber, TellsOr, TellsValue, Took, TookFrame, close_status, code_status, eight_of, fault_line, frame_of, identifier_of, session_told, told_id, write_status};
+ghost use Rattle.uds_unit.specs.Calls.{Both, CopiedInto, CopiesWhole, HandedReply, Opened, Refused, Sets, SetsOr, TellsCode, TellsFault, TellsNumber, TellsOr, TellsValue, Took, TookFrame, close_status, code_status, all_of, fault_line, frame_of, heard, identifier_of, session_told, told_fd, told_id, write_status};
 ghost use Rattle.uds_unit.specs.Moments.{due_us, moment_us};
 ghost use Rattle.uds_unit.specs.History.{At, SetStatus, SetValue};
 
 use crate::clock::moment_us;
 use crate::device::Device;
+use crate::given::GivenFrame;
 use crate::handle::Handle;
 use crate::status::{CLOSED, DONE, LENGTH, MEMORY, NO_FRAME, NONE, ROOM, UNKNOWN, fault_status};
 use diag_bus::Drawn;
-use diag_can::{CanId, Frame, FrameBytes};
+use diag_can::CanId;
 use diag_config::{ConfigFault, read_setup};
 use diag_ecu::Ecu;
 use diag_store::DidFault;
@@ -38,8 +40,10 @@ pub struct Reply {
     pub tester: u8,
     /// How many bytes it has.
     pub len: u8,
+    /// 1 of a frame of CAN FD, 0 of a classic one.
+    pub fd: u8,
     /// Its bytes, and behind them zeros.
-    pub bytes: [u8; 8],
+    pub bytes: [u8; 64],
 }
 
 /// The session, and who holds it.
@@ -190,19 +194,25 @@ fn identifier_of(id: u32) -> Option<CanId>
 }
 
 /// The frame with this identifier and these bytes, if there is such a frame.
-fn frame_of(id: u32, bytes: &[u8]) -> Option<Frame>
+fn frame_of(id: u32, bytes: &[u8]) -> Option<GivenFrame<'_>>
     ensures { result ≡ frame_of id bytes.now }
 {
-    if bytes.len() > 8 {
+    if !is_frame_length(bytes.len()) {
         return None;
     }
     match identifier_of(id) {
-        Some(id) => Some(Frame {
-            id,
-            bytes: FrameBytes::from_slice(bytes),
-        }),
+        Some(id) => Some(GivenFrame { id, bytes }),
         None => None,
     }
+}
+
+/// Whether a frame, classic or of CAN FD, can have so many bytes.
+#[inline(always)]
+fn is_frame_length(count: usize) -> bool
+    ensures is { result ≡ is_fd_length count }
+    ensures fits { result ≡ true → count ≤ 64 }
+{
+    matches!(count, 0..=8 | 12 | 16 | 20 | 24 | 32 | 48 | 64)
 }
 
 /// How C is told an identifier.
@@ -216,9 +226,16 @@ fn told_id(id: CanId) -> u32
     }
 }
 
+/// How C is told whether a frame is one of CAN FD.
+fn told_fd(fd: bool) -> u8
+    ensures { result ≡ told_fd fd }
+{
+    if fd { 1 } else { 0 }
+}
+
 /// Gives a unit a moment in microseconds, and the frame then, if there is one.
-fn give(device: &mut Device, at_us: u64, frame: Option<Frame>) -> u32
-    ensures { Took device.old device.new (At (at_us / 1000) frame) result }
+fn give(device: &mut Device, at_us: u64, frame: Option<GivenFrame<'_>>) -> u32
+    ensures { Took device.old device.new (At (at_us / 1000) frame.entry) result }
 {
     match device.take(at_us / 1000, frame) {
         Ok(()) => DONE,
@@ -226,18 +243,33 @@ fn give(device: &mut Device, at_us: u64, frame: Option<Frame>) -> u32
     }
 }
 
+/// What a unit hears of a frame: one of more than 8 bytes is of CAN FD, which is heard where its identifier is read by it.
+#[inline(always)]
+fn heard<'a>(device: &Device, frame: GivenFrame<'a>) -> Option<GivenFrame<'a>>
+    ensures { result ≡ heard device.now.setup frame.entry }
+{
+    if frame.bytes.len() <= 8 || device.reads_long(frame.id) {
+        Some(frame)
+    } else {
+        None
+    }
+}
+
 /// The same with a frame; where there is none nothing is done.
-fn give_frame(device: &mut Device, at_us: u64, frame: Option<Frame>) -> u32
-    ensures { TookFrame device.old device.new (at_us / 1000) frame result }
+fn give_frame(device: &mut Device, at_us: u64, frame: Option<GivenFrame<'_>>) -> u32
+    ensures { TookFrame device.old device.new (at_us / 1000) frame.entry result }
 {
     match frame {
-        Some(frame) => give(device, at_us, Some(frame)),
+        Some(frame) => {
+            let heard = heard(device, frame);
+            give(device, at_us, heard)
+        }
         None => NO_FRAME,
     }
 }
 
 /// Takes a frame of the bus at a moment in microseconds; an earlier one counts as the latest so far. The identifier has 11
-/// bits, or with bit 31 29 bits.
+/// bits, or with bit 31 29 bits. One of more than 8 bytes that isn't for a tester that talks by CAN FD only lets the time pass.
 #[unsafe(no_mangle)]
 pub extern "C" fn uds_unit_frame(
     alloc: Global,
@@ -273,21 +305,23 @@ pub extern "C" fn uds_unit_pass(alloc: Global, unit: &mut Handle, to_us: u64) ->
 }
 
 /// Writes out a frame that is due.
-#[tactic(auto, using(crate::proofs::Replies::eight_copied))]
-fn put(out: &mut Reply, start: u64, drawn: &Drawn)
+#[tactic(auto, using(crate::proofs::Replies::all_copied))]
+fn put(out: &mut Reply, start: u64, fd: bool, drawn: &Drawn)
     ensures at { out.new.at_us ≡ moment_us start drawn.now.sent.at }
     ensures id { out.new.id ≡ told_id drawn.now.sent.frame.id }
     ensures tester { out.new.tester ≡ drawn.now.who }
     ensures len { out.new.len ≡ length drawn.now.sent.frame.bytes }
-    ensures bytes { out.new.bytes ≡ eight_of drawn.now.sent.frame.bytes }
+    ensures fd { out.new.fd ≡ told_fd fd }
+    ensures bytes { out.new.bytes ≡ all_of drawn.now.sent.frame.bytes }
 {
-    let frame = &drawn.sent.frame;
-    out.at_us = moment_us(start, drawn.sent.at);
-    out.id = told_id(frame.id);
+    let bytes = drawn.bytes.as_slice();
+    out.at_us = moment_us(start, drawn.at);
+    out.id = told_id(drawn.id);
     out.tester = drawn.who.number();
-    out.bytes = [0; 8];
-    out.len = frame.bytes.len() as u8;
-    copy_into(&mut out.bytes, frame.bytes.as_slice());
+    out.bytes = [0; 64];
+    out.len = bytes.len() as u8;
+    out.fd = told_fd(fd);
+    copy_into(&mut out.bytes, bytes);
 }
 
 /// Hands out the next frame that is due, if there is one.
@@ -299,7 +333,8 @@ fn hand_out(device: &mut Device, reply: &mut Reply) -> u32
     let start = device.start();
     match device.next() {
         Some(drawn) => {
-            put(reply, start, &drawn);
+            let fd = device.is_fd(drawn.who);
+            put(reply, start, fd, &drawn);
             DONE
         }
         None => NONE,

@@ -5,8 +5,9 @@ ghost use Rattle.diag_setup.specs.Rows.{in_order};
 ghost use Rattle.diag_bus.specs.Text.{drawn_for, gathered, time_of};
 
 use diag_bus::Drawn;
+use diag_can::KeptBytes;
 use diag_setup::{Setup, TesterId};
-use diag_tp::Sent;
+use diag_tp::SentFrames;
 use std::alloc::AllocError;
 use std::collections::VecDeque;
 
@@ -14,44 +15,39 @@ use std::collections::VecDeque;
 fn sort_batch(batch: &mut Vec<Drawn>) -> Result<(), AllocError>
     ensures { OnOk result (batch.new.items ≡ in_order time_of batch.old.items) }
 {
-    batch.sort_by_key(|drawn| drawn.sent.at)?;
+    batch.sort_by_key(|drawn| drawn.at)?;
     Ok(())
 }
 
-/// Moves a tester's frames to the end of a batch; the room that they had stays.
-fn add_frames(
-    batch: &mut Vec<Drawn>,
-    who: TesterId,
-    frames: &mut Vec<Sent>,
-) -> Result<(), AllocError>
+/// Copies a tester's frames to the end of a batch.
+fn add_frames(batch: &mut Vec<Drawn>, who: TesterId, frames: &SentFrames) -> Result<(), AllocError>
     ensures { OnOk result
-        (batch.new.items ≡ batch.old.items ++ map (drawn_for who) frames.old.items) }
+        (batch.new.items ≡ batch.old.items ++ map (drawn_for who) frames.now.items) }
 {
-    for sent in frames.drain(..) {
-        batch.push(Drawn { who, sent })?;
+    for index in 0..frames.len() {
+        let sent = frames.get(index);
+        let bytes = KeptBytes::of(*batch.allocator(), sent.bytes)?;
+        batch.push(Drawn {
+            who,
+            at: sent.at,
+            id: sent.id,
+            bytes,
+        })?;
     }
     Ok(())
 }
 
-/// Moves the frames of each tester's list into a batch, one list behind the other.
-fn gather(
-    setup: &Setup,
-    drawn: &mut Vec<Vec<Sent>>,
-    batch: &mut Vec<Drawn>,
-) -> Result<(), AllocError>
-    requires { length drawn.old.items ≡ length setup.now.testers }
-    ensures all { OnOk result (batch.new.items
-        ≡ batch.old.items ++ gathered 1 (map (λ f. f.items) drawn.old.items)) }
-    ensures lists { length drawn.new.items ≡ length drawn.old.items }
+/// Copies the frames of each tester's list into a batch, one list behind the other.
+fn gather(setup: &Setup, drawn: &[SentFrames], batch: &mut Vec<Drawn>) -> Result<(), AllocError>
+    requires { length drawn.now ≡ length setup.now.testers }
+    ensures { OnOk result (batch.new.items
+        ≡ batch.old.items ++ gathered 1 (map (λ f. f.items) drawn.now)) }
 {
     for index in 0..setup.testers() {
-        if drawn[index].is_empty() {
-            continue;
-        }
         let Some(who) = setup.who(index) else {
             unreachable!()
         };
-        add_frames(batch, who, &mut drawn[index])?;
+        add_frames(batch, who, &drawn[index])?;
     }
     Ok(())
 }
@@ -66,18 +62,17 @@ fn queue(batch: &mut Vec<Drawn>, waiting: &mut VecDeque<Drawn>) -> Result<(), Al
     Ok(())
 }
 
-/// Moves the frames of the testers' lists, in the order of the bus, to the end of those that are due: the earlier time
+/// Adds the frames of the testers' lists, in the order of the bus, at the end of those that are due: the earlier time
 /// first, at one time the testers in order, of one tester as drawn. The batch is room to work in.
 pub(crate) fn queue_drawn(
     setup: &Setup,
-    drawn: &mut Vec<Vec<Sent>>,
+    drawn: &[SentFrames],
     batch: &mut Vec<Drawn>,
     waiting: &mut VecDeque<Drawn>,
 ) -> Result<(), AllocError>
-    requires { length drawn.old.items ≡ length setup.now.testers }
-    ensures all { OnOk result (waiting.new.items ≡ waiting.old.items
-        ++ in_order time_of (gathered 1 (map (λ f. f.items) drawn.old.items))) }
-    ensures lists { length drawn.new.items ≡ length drawn.old.items }
+    requires { length drawn.now ≡ length setup.now.testers }
+    ensures { OnOk result (waiting.new.items ≡ waiting.old.items
+        ++ in_order time_of (gathered 1 (map (λ f. f.items) drawn.now))) }
 {
     batch.clear();
     gather(setup, drawn, batch)?;

@@ -6,6 +6,7 @@ mod device;
 mod entries;
 mod exports;
 mod frames;
+mod given;
 mod handle;
 mod laws;
 mod loose;

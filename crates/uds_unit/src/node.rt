@@ -12,10 +12,11 @@ ghost use Rattle.diag_bus.specs.Node.{HasTime, Lasts, OneWentOn, TookTime};
 ghost use Rattle.diag_bus.specs.RequestIds.{AreRequestsOf, IsOwner, functional_to, functional_to_all, given};
 
 use crate::entries::Entries;
+use crate::given::GivenFrame;
 use diag_bus::{Owner, RequestIds};
-use diag_can::{Event, Frame, TickCount};
+use diag_can::{CanId, LentEvent, TickCount};
 use diag_setup::{Setup, TesterId};
-use diag_tp::Sent;
+use diag_tp::SentFrames;
 use diag_world::Server;
 use std::alloc::AllocError;
 
@@ -30,7 +31,7 @@ pub struct Node {
     /// Whether a journal is wanted.
     pub wanted: bool,
     /// The frames that each tester is sent with this call.
-    pub drawn: Vec<Vec<Sent>>,
+    pub drawn: Vec<SentFrames>,
     /// The text of the entries that was not handed out.
     pub text: Vec<u8>,
 }
@@ -50,7 +51,7 @@ impl Node {
     }
 
     /// Gives the server an event of a tester.
-    fn give(&mut self, who: TesterId, event: &Event) -> Result<(), AllocError>
+    fn give(&mut self, who: TesterId, event: &LentEvent<'_>) -> Result<(), AllocError>
         requires in_setup { who ≤ length self.old.server.ports }
         requires lists { length self.old.drawn.items ≡ length self.old.server.ports }
         requires early { IsEarly self.old.server (who - 1) }
@@ -70,7 +71,7 @@ impl Node {
     }
 
     /// Gives the server an event of each tester, in order.
-    fn give_to_each(&mut self, setup: &Setup, event: &Event) -> Result<(), AllocError>
+    fn give_to_each(&mut self, setup: &Setup, event: &LentEvent<'_>) -> Result<(), AllocError>
         requires in_setup { length self.old.server.ports ≡ length setup.now.testers }
         requires lists { length self.old.drawn.items ≡ length setup.now.testers }
         requires early { HasTime self.old.server 0 }
@@ -100,7 +101,7 @@ impl Node {
             self.server.pass_quietly(setup, count);
             return Ok(());
         }
-        self.give_to_each(setup, &Event::Ticks(count))
+        self.give_to_each(setup, &LentEvent::ticks(count))
     }
 
     /// Lets so many milliseconds pass for each tester: by the longest count each, and last the rest.
@@ -119,34 +120,42 @@ impl Node {
     }
 
     /// Gives the server a frame, by whose it is.
-    fn give_frame(&mut self, setup: &Setup, owner: Owner, frame: &Frame) -> Result<(), AllocError>
+    fn give_frame(
+        &mut self,
+        setup: &Setup,
+        owner: Owner,
+        id: CanId,
+        bytes: &[u8],
+    ) -> Result<(), AllocError>
+        requires fits { length bytes.now ≤ 64 }
         requires in_setup { length self.old.server.ports ≡ length setup.now.testers }
         requires lists { length self.old.drawn.items ≡ length setup.now.testers }
-        requires owner { IsOwner setup.now frame.now.id (length setup.now.testers) owner }
+        requires owner { IsOwner setup.now id (length setup.now.testers) owner }
         requires early { HasTime self.old.server 0 }
         ensures { Passed self.old self.new 0
-            (given setup.now frame.now.id (length setup.now.testers) owner frame.now.bytes) result }
+            (given setup.now id (length setup.now.testers) owner bytes.now) result }
     {
         match owner {
             Owner::Nobody => Ok(()),
-            Owner::Tester(who) => self.give(who, &Event::Physical(frame.bytes.copy())),
-            Owner::Functional => self.give_functional(setup, frame),
+            Owner::Tester(who) => self.give(who, &LentEvent::physical(bytes)),
+            Owner::Functional => self.give_functional(setup, id, bytes),
         }
     }
 
     /// Gives the server a functional frame: it is for each tester that has this functional identifier, in order.
-    fn give_functional(&mut self, setup: &Setup, frame: &Frame) -> Result<(), AllocError>
+    fn give_functional(&mut self, setup: &Setup, id: CanId, bytes: &[u8]) -> Result<(), AllocError>
+        requires fits { length bytes.now ≤ 64 }
         requires in_setup { length self.old.server.ports ≡ length setup.now.testers }
         requires lists { length self.old.drawn.items ≡ length setup.now.testers }
         requires early { HasTime self.old.server 0 }
         ensures { Passed self.old self.new 0
-            (functional_to_all setup.now frame.now.id (length setup.now.testers) frame.now.bytes) result }
+            (functional_to_all setup.now id (length setup.now.testers) bytes.now) result }
     {
         for index in 0..setup.testers() {
             let Some(who) = setup.who(index) else {
                 unreachable!()
             };
-            self.give_functional_to(setup, who, frame)?;
+            self.give_functional_to(setup, who, id, bytes)?;
         }
         Ok(())
     }
@@ -156,16 +165,18 @@ impl Node {
         &mut self,
         setup: &Setup,
         who: TesterId,
-        frame: &Frame,
+        id: CanId,
+        bytes: &[u8],
     ) -> Result<(), AllocError>
+        requires fits { length bytes.now ≤ 64 }
         requires known { who ≤ length setup.now.testers }
         requires in_setup { who ≤ length self.old.server.ports }
         requires lists { length self.old.drawn.items ≡ length self.old.server.ports }
         requires early { HasTime self.old.server 0 }
-        ensures { Passed self.old self.new 0 (functional_to setup.now frame.now.id frame.now.bytes who) result }
+        ensures { Passed self.old self.new 0 (functional_to setup.now id bytes.now who) result }
     {
-        if frame.id == setup.ids(who).functional {
-            self.give(who, &Event::Functional(frame.bytes.copy()))
+        if id == setup.ids(who).functional {
+            self.give(who, &LentEvent::functional(bytes))
         } else {
             Ok(())
         }
@@ -177,23 +188,25 @@ impl Node {
         setup: &Setup,
         ids: &RequestIds,
         ms: u64,
-        frame: Option<Frame>,
+        frame: Option<GivenFrame<'_>>,
     ) -> Result<(), AllocError>
         requires ready { IsReady self.old (length setup.now.testers) ms }
         requires ids { AreRequestsOf setup.now ids.now }
         ensures { Passed self.old self.new ms (flat_map (each_of (length setup.now.testers)) (waited ms)
-            ++ flat_map (frame_to setup.now frame) (counted_from 1 (length setup.now.testers))) result }
+            ++ flat_map (frame_to setup.now frame.entry) (counted_from 1 (length setup.now.testers))) result }
     {
         self.pass(setup, ms)?;
         match frame {
-            Some(frame) => self.give_frame(setup, ids.owner(setup, frame.id), &frame),
+            Some(frame) => {
+                self.give_frame(setup, ids.owner(setup, frame.id), frame.id, frame.bytes)
+            }
             None => Ok(()),
         }
     }
 }
 
 /// Empties each tester's list.
-fn clear_all(drawn: &mut Vec<Vec<Sent>>)
+fn clear_all(drawn: &mut Vec<SentFrames>)
     ensures empty { (i : ℕ) (frames : List ASent)
         → slice_get (map (λ f. f.items) drawn.new.items) i ≡ Some frames → frames ≡ [] }
     ensures lists { length drawn.new.items ≡ length drawn.old.items }

@@ -71,7 +71,8 @@ function detailsOf(item) {
   const frames = framesOf(item);
   if (isEntry(item)) found.push(...bytesOf(texts[entries.ask[item]][1], "request", "ask"));
   for (const [stamp, after, bytes] of frames.length > 1 ? frames : []) {
-    found.push({ text: `(${stamp})  ${after < 0 ? "" : "+"}${after} ms  ${bytes}`, isFrame: true, side: "answer" });
+    const text = `(${stamp})  ${after < 0 ? "" : "+"}${after} ms  ${bytes.slice(0, 2 * BYTES_OF_A_LINE)}`;
+    found.push({ text, isFrame: true, side: "answer" }, ...bytesOf(bytes.slice(2 * BYTES_OF_A_LINE), "", "answer"));
   }
   if (isEntry(item) && !late.has(item) && frames.length < 2) found.push(...bytesOf(texts[entries.answer[item]][1], "reply", "answer"));
   return found;

@@ -8,7 +8,7 @@ use diag_can::{Event, Timing, read_log};
 use diag_desk::{Journal, replay};
 use diag_setup::Setup;
 use diag_stored::two_testers;
-use diag_tp::Sent;
+use diag_tp::SentFrames;
 use std::alloc::Global;
 
 /// The log of the first reader, which takes the session and reads a value.
@@ -76,26 +76,27 @@ pub(crate) fn events_of(
     Ok(log)
 }
 
-/// Whether a frame was sent at this time, with this identifier and these bytes.
-pub(crate) fn is_frame(sent: &Sent, at: u64, id: u32, bytes: &[u8]) -> bool {
-    sent.at == at && sent.frame.id.get() == id && sent.frame.bytes.as_slice() == bytes
+/// Whether the frame at this index was sent at this time, with this identifier and these bytes.
+pub(crate) fn is_frame(sent: &SentFrames, index: usize, at: u64, id: u32, bytes: &[u8]) -> bool {
+    if index >= sent.len() {
+        return false;
+    }
+    let frame = sent.get(index);
+    frame.at == at && frame.id.get() == id && frame.bytes == bytes
 }
 
 /// Whether the first tester of the readers was sent its frames.
-pub(crate) fn has_first_frames(sent: &[Sent]) -> bool {
-    let [session, first, second, third] = sent else {
-        return false;
-    };
-    is_frame(session, 0, 0x7E8, &SESSION)
-        && is_frame(first, 0, 0x7E8, &OLD_VALUE[0])
-        && is_frame(second, 0, 0x7E8, &OLD_VALUE[1])
-        && is_frame(third, 0, 0x7E8, &OLD_VALUE[2])
+pub(crate) fn has_first_frames(sent: &SentFrames) -> bool {
+    sent.len() == 4
+        && is_frame(sent, 0, 0, 0x7E8, &SESSION)
+        && is_frame(sent, 1, 0, 0x7E8, &OLD_VALUE[0])
+        && is_frame(sent, 2, 0, 0x7E8, &OLD_VALUE[1])
+        && is_frame(sent, 3, 0, 0x7E8, &OLD_VALUE[2])
 }
 
 /// Whether the second tester of the readers was sent its frames.
-pub(crate) fn has_second_frames(sent: &[Sent]) -> bool {
-    let [codes, value] = sent else {
-        return false;
-    };
-    is_frame(codes, 0, 0x7E9, &CODES) && is_frame(value, 10, 0x7E9, &OLD_VALUE[0])
+pub(crate) fn has_second_frames(sent: &SentFrames) -> bool {
+    sent.len() == 2
+        && is_frame(sent, 0, 0, 0x7E9, &CODES)
+        && is_frame(sent, 1, 10, 0x7E9, &OLD_VALUE[0])
 }

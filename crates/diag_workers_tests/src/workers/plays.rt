@@ -21,8 +21,8 @@ fn is_readers_play(played: &Played) -> bool {
         return false;
     };
     let is_held = matches!(played.desk.ecu().holder(), Some(who) if who.number() == 1);
-    has_first_frames(first.as_slice())
-        && has_second_frames(second.as_slice())
+    has_first_frames(first)
+        && has_second_frames(second)
         && is_held
         && played.desk.journal().len() == 5
 }

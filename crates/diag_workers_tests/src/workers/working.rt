@@ -57,9 +57,9 @@ fn is_whole(
     let who = setup.who(index).ok_or(Trouble::Wrong)?;
     is_replayed(alloc, setup, journal)?;
     let (count, framed) = if index == 0 {
-        (2, has_first_frames(record.sent.as_slice()))
+        (2, has_first_frames(&record.sent))
     } else {
-        (3, has_second_frames(record.sent.as_slice()))
+        (3, has_second_frames(&record.sent))
     };
     Ok(
         framed

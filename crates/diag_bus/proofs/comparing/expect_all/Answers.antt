@@ -1,7 +1,8 @@
-use Rattle.std.proofs.Common.{◌≡◌, ◌<◌, Some, Vec, Global, List, length, map, ap, refl, subst, sym, ◌∙◌, arith}
+use Rattle.std.proofs.Common.{◌≡◌, ◌<◌, Some, List, length, map, ap, refl, subst, sym, ◌∙◌, arith}
 use Rattle.std.proofs.lemmas.List.{length-map}
 use Rattle.std.proofs.lemmas.Option.{same_Some, slice_get_read, slice_get-map}
 use Rattle.std.specs.Prelude.{option_map, slice_get}
+use Rattle.diag_tp.specs.SentFrames.{SentList}
 use Rattle.diag_tp.specs.declared.sent.Sent.{Sent}
 use Rattle.diag_bus.specs.Comparing.{Expects, ExpectsAt}
 use Rattle.diag_bus.specs.Verdict.{expected_of}
@@ -23,17 +24,15 @@ loop-index-preserved c =
     let list = c.index-drawn-index.result in
     let drew : slice_get drawn i ≡ Some list =
     slice_get_read drawn (length drawn) i list refl (omega (arith, within, c.loop-index.invariant.many, c.requires)) c.index-drawn-index.is in
-    let frames : slice_get (map (λ (f : Vec Sent Global). f.items) drawn) i ≡ Some list.items =
-    slice_get-map (λ (f : Vec Sent Global). f.items) drawn i ∙ ap (option_map (λ (f : Vec Sent Global). f.items)) drew in
-    let took : Expects own c.expect_each.new.self (expected_of list.items) =
-    subst (λ (f : List Sent). Expects own c.expect_each.new.self (expected_of f)) c.as_slice.ensures.value c.in_ok-expect_each.ensures in
+    let frames : slice_get (map (λ (f : SentList). f.items) drawn) i ≡ Some list.items =
+    slice_get-map (λ (f : SentList). f.items) drawn i ∙ ap (option_map (λ (f : SentList). f.items)) drew in
     one_more _ c.args.testers.now.items now i c.loop-index.invariant own c.expect_each.new.self here
-    (λ found at. subst (λ (f : List Sent). Expects own c.expect_each.new.self (expected_of f)) (same_Some _ _ (sym frames ∙ at)) took)
+    (λ found at. subst (λ (f : List Sent). Expects own c.expect_each.new.self (expected_of f)) (same_Some _ _ (sym frames ∙ at)) c.in_ok-expect_each.ensures)
 
 pub returns-clause-ok : goal.returns-clause-ok
 returns-clause-ok c =
     let all : c.loop-index.index ≡ length c.args.testers.now.items =
     omega (arith, c.loop-index-test.false, c.len-index-end.ensures, c.loop-index.auto.index-end) in
-    all_done (ExpectsAt (map (λ (f : Vec Sent Global). f.items) c.args.drawn.now)) c.args.testers.now.items c.loop-index.testers.items
-    (subst (λ k. UpTo (ExpectsAt (map (λ (f : Vec Sent Global). f.items) c.args.drawn.now)) c.args.testers.now.items c.loop-index.testers.items k)
+    all_done (ExpectsAt (map (λ (f : SentList). f.items) c.args.drawn.now)) c.args.testers.now.items c.loop-index.testers.items
+    (subst (λ k. UpTo (ExpectsAt (map (λ (f : SentList). f.items) c.args.drawn.now)) c.args.testers.now.items c.loop-index.testers.items k)
     all c.loop-index.invariant)

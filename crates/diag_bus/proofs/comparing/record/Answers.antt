@@ -25,7 +25,7 @@ returns-clause-ok c =
     let one : IsWithin (length testers) who = subst (λ (r : Option ℕ). IfSome r (IsWithin (length testers))) c.in-Some.is c.requires in
     let within : index < length testers = omega (arith, one.0, one.1, c.index.ensures.from_one) in
     let here : slice_get testers index ≡ Some own = slice_get_read testers (length testers) index own refl within c.index_mut.ensures.value in
-    let bytes = c.bytes-bytes.ensures in
+    let bytes = c.in_ok-bytes.ensures in
     let shown : is_pending frame.bytes ≡ false =
     ap is_pending (sym (c.as_slice.ensures.bytes ∙ bytes)) ∙ (sym c.is_pending.ensures ∙ c.if-is_pending.false) in
     on_ok_weaker c.record.result (λ took setup h.

@@ -2,5 +2,5 @@ use Rattle.std.proofs.Common.{◌≡◌, ◌++◌, map, take}
 use Rattle.diag_bus.specs.Text.{drawn_for}
 use Rattle.diag_bus.proofs.writing.add_frames.Given as goal
 
-abbrev pub invariant-loop-sent : goal.invariant-loop-sent
-invariant-loop-sent l = l.batch.items ≡ l.fn.batch.items ++ map (drawn_for l.who) (take l.sent-index l.frames)
+abbrev pub invariant-loop-index : goal.invariant-loop-index
+invariant-loop-index l = l.batch.items ≡ l.fn.batch.items ++ map (drawn_for l.who) (take l.index l.frames.items)

@@ -1,4 +1,5 @@
 use Rattle.std.proofs.Common.{◌≡◌, ◌⊎◌, ℕ, Option, Some, None, inl, inr, length, ap, refl, subst, sym, ◌∙◌}
+use Rattle.std.proofs.lemmas.Result.{IfOk-weaker}
 use Rattle.diag_can.specs.declared.bus_line.BusLine.{BusLine}
 use Rattle.diag_can.specs.declared.bus_line.BusLine.TheVariants.{Empty, Ticks}
 use Rattle.diag_can.specs.declared.frame.Frame.{Frame}
@@ -17,8 +18,10 @@ returns-in-Some c =
     let is : frame_said c.args.said.now ≡ Some frame = ap frame_said c.in-Stamped.is ∙ c.in-Some.is in
     let found : IsResponder setup frame.id (length setup.testers) responder =
     subst (λ i. IsResponder setup i (length setup.testers) responder) c.id.ensures c.responder.ensures in
-    subst (λ (f : Option Frame). IsUnitFrame setup f c.sent_to.result) (sym is)
-    (subst (λ (s : Option UnitFrame). IsUnitFrame setup (Some frame) s) (sym c.sent_to.ensures) (to_each setup frame responder found responder refl))
+    IfOk-weaker c.sent_to.result _ _ (λ sent same.
+    subst (λ (f : Option Frame). IsUnitFrame setup f sent) (sym is)
+    (subst (λ (s : Option UnitFrame). IsUnitFrame setup (Some frame) s) (sym same) (to_each setup frame responder found responder refl)))
+    c.sent_to.ensures
 
 pub returns-in-None : goal.returns-in-None
 returns-in-None c = no_frame c.args.setup.now (frame_said c.args.said.now) (ap frame_said c.in-Stamped.is ∙ c.in-None.is)

@@ -5,16 +5,18 @@ use Rattle.diag_tp.specs.Wire.{wire}
 use Rattle.diag_tp.specs.Link.{StandsFor}
 use Rattle.diag_tp.proofs.Views.{pending_unsent}
 use Rattle.diag_tp.proofs.Moments.{last_time-ticks}
-use Rattle.diag_port.specs.Held.{until_due}
+use Rattle.diag_port.specs.Held.{held_frames, until_due}
 use Rattle.diag_port.specs.Late.{placed_late, released}
 use Rattle.diag_port.proofs.LateLemmas.{still_not_due}
 use Rattle.diag_port.proofs.PortLemmas.{asked_on, goes_moved}
+use Rattle.diag_port.proofs.Rooms.{room_fewer}
 use Rattle.diag_port.proofs.Within.{within_wider}
 use Rattle.diag_port.proofs.passing.move_on.Goals as goal
 
 pub send_due-requires : goal.send_due-requires
 send_due-requires c = record {
-  room = omega (arith, pending_unsent c.release.new.port.link.state, c.release.ensures.unsent, c.advance.ensures.unsent, c.requires.room);
+  room = room_fewer c.args.port.now.link.state c.release.new.port.link.state _ _ c.args.out.now (c.release.ensures.setup ∙ c.advance.ensures.setup)
+      (omega (arith, pending_unsent c.release.new.port.link.state, c.release.ensures.unsent, c.advance.ensures.unsent)) c.requires.room;
 }
 
 pub returns-clause-rest : goal.returns-clause-rest
@@ -61,3 +63,9 @@ returns-clause-passed c =
             },
       );
     }
+
+pub returns-clause-room : goal.returns-clause-room
+returns-clause-room c =
+    let H = c.release.new.port.held.messages in
+    c.send_due.ensures.room (held_frames H) (room_fewer c.args.port.now.link.state c.release.new.port.link.state _ _ c.args.out.now
+    (c.release.ensures.setup ∙ c.advance.ensures.setup) (omega (arith, c.release.ensures.unsent, c.advance.ensures.unsent)) c.requires.room)

@@ -1,4 +1,4 @@
-use Rattle.std.proofs.Common.{◌≡◌, ◌+◌, ◌-◌, ◌<◌, ◌≤◌, List, [], ◌∷◌, ◌++◌, min, vec_len, vec_capacity}
+use Rattle.std.proofs.Common.{◌≡◌, ◌+◌, ◌-◌, ◌<◌, ◌≤◌, List, [], ◌∷◌, ◌++◌, min}
 use Rattle.diag_can.specs.declared.frame.Event.{Event as AnEvent}
 use Rattle.diag_can.specs.declared.frame.Event.TheVariants.{Ticks}
 use Rattle.diag_pdu.specs.declared.setup.LinkSetup.{LinkSetup}
@@ -7,7 +7,7 @@ use Rattle.diag_tp.specs.Moments.{history, last_time}
 use Rattle.diag_tp.specs.Wire.{wire}
 use Rattle.diag_tp.specs.Link.{last_tick}
 use Rattle.diag_port.specs.Late.{Late, placed_late}
-use Rattle.diag_port.specs.Port.{AreWithin, Grew, IsAtRest, PortFor, port_of, unsent_of}
+use Rattle.diag_port.specs.Port.{AreWithin, Grew, HasRoomFor, IsAtRest, PortFor, port_of, unsent_of}
 use Rattle.diag_port.proofs.passing.pass_in_moves.Given as goal
 
 abbrev pub invariant-loop-left : goal.invariant-loop-left
@@ -15,7 +15,7 @@ invariant-loop-left l = record {
   range : l.left ≤ l.fn.count;
   rest : IsAtRest l.port;
   pace : l.port.pace ≡ l.fn.port.pace;
-  room : vec_len l.out + unsent_of l.port ≤ vec_capacity l.out;
+  room : HasRoomFor l.port.link.state (unsent_of l.port) l.out;
   began : l.left ≡ l.fn.count → l.port.link.state.now ≡ l.fn.port.link.state.now;
   time : l.left < l.fn.count → l.port.link.state.now ≡ min (l.fn.port.link.state.now + (l.fn.count - l.left)) last_tick;
   later : l.fn.port.link.state.now ≤ l.port.link.state.now;

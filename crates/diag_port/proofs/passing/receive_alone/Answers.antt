@@ -21,7 +21,7 @@ returns-in-Some-answer_alone-clause-received c =
     let e = c.args.event.now in
     record {
       more = sent ∷ [];
-      grown = c.push_reserved.ensures.items;
+      grown = c.push.ensures.items;
       holds = (
         within_wider at at old link.now (sent ∷ []) (within_one sent at refl) (omega (arith, here, same)) (omega (arith, here)),
         λ s E A Q h time.

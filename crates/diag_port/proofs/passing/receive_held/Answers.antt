@@ -7,6 +7,7 @@ use Rattle.diag_port.specs.Port.{AreWithin}
 use Rattle.diag_port.specs.Late.{laters, placed_late, released, still, NoneIsDue}
 use Rattle.diag_port.proofs.LateLemmas.{still_not_due}
 use Rattle.diag_port.proofs.PortLemmas.{asked_received, goes_received}
+use Rattle.diag_port.proofs.Rooms.{room_fewer}
 use Rattle.diag_port.proofs.passing.receive_held.Goals as goal
 
 pub release-requires : goal.release-requires
@@ -16,7 +17,8 @@ release-requires c = record {
 
 pub send_due-requires : goal.send_due-requires
 send_due-requires c = record {
-  room = omega (arith, c.release.ensures.due, c.hold_reply.ensures.few, c.settle.ensures.due, c.settle.ensures.unsent, c.requires.can.frames);
+  room = room_fewer c.args.port.now.link.state c.release.new.port.link.state _ _ c.args.out.now (c.release.ensures.setup ∙ c.settle.ensures.setup)
+      (omega (arith, c.release.ensures.due, c.hold_reply.ensures.few, c.settle.ensures.due, c.settle.ensures.unsent)) c.requires.can.frames;
 }
 
 pub returns-clause-rest : goal.returns-clause-rest

@@ -7,6 +7,7 @@ use Rattle.diag_port.specs.declared.held.Later.{Later}
 use Rattle.diag_port.specs.Held.{frames_of_later, held_frames}
 use Rattle.diag_port.specs.Late.{released, still}
 use Rattle.diag_port.proofs.LateLemmas.{released_due, still_due}
+use Rattle.diag_port.proofs.Rooms.{frames_fewer}
 use Rattle.diag_port.proofs.passing.release.Goals as goal
 
 pub answer-requires : goal.answer-requires
@@ -30,6 +31,7 @@ loop-later-preserved c =
       now = inv.now;
       pace = inv.pace;
       time = c.answer.ensures.time ∙ inv.time;
+      setup = c.answer.ensures.setup ∙ inv.setup;
       stands = λ s E A Q h.
           let before = inv.stands s E A Q h in
           let m = last_moment E in
@@ -43,5 +45,5 @@ loop-later-preserved c =
       held = inv.held ∙ (ap (still t) split ∙ still_due t later H due);
       rooms = omega (arith, inv.rooms, count, c.answer.ensures.reply_rooms);
       due = omega (arith, inv.due, count, c.answer.ensures.due);
-      unsent = omega (arith, inv.unsent, frames, c.answer.ensures.unsent);
+      unsent = omega (arith, inv.unsent, frames, c.answer.ensures.unsent, frames_fewer c.loop-later.port.link.state.setup.framing.tx_dl later.message);
     }

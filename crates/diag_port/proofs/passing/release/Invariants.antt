@@ -15,6 +15,7 @@ invariant-loop-later l = record {
   now : l.now ≡ l.initial.port.link.state.now;
   pace : l.port.pace ≡ l.initial.port.pace;
   time : l.port.link.state.now ≡ l.initial.port.link.state.now;
+  setup : l.port.link.state.setup ≡ l.initial.port.link.state.setup;
   stands : (s : LinkSetup) (E : List AnEvent) (A : List Placed) (Q : List Sent) → StandsFor s l.initial.port.link.state E A Q
       → (A' : List Placed) × (StandsFor s l.port.link.state E A' Q
       × (A ++ released (last_moment E) l.now l.initial.port.held.messages ≡ A' ++ released (last_moment E) l.now l.port.held.messages));

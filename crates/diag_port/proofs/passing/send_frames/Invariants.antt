@@ -1,23 +1,18 @@
-use Rattle.std.proofs.Common.{◌≡◌, ◌+◌, ◌++◌, ◌≤◌, List, vec_len, vec_capacity}
-use Rattle.diag_can.specs.declared.frame.Event.{Event as AnEvent}
-use Rattle.diag_pdu.specs.declared.setup.LinkSetup.{LinkSetup}
-use Rattle.diag_tp.specs.declared.sent.Sent.{Sent}
-use Rattle.diag_tp.specs.Moments.{last_time}
-use Rattle.diag_tp.specs.Wire.{Placed}
-use Rattle.diag_tp.specs.Link.{StandsFor, pending, unsent, last_tick}
-use Rattle.diag_port.specs.Port.{AreWithin, Grew}
+use Rattle.std.proofs.Common.{◌≡◌, ◌≤◌}
+use Rattle.diag_pdu.specs.declared.length.DataLength.TheVariants.{Dl8}
+use Rattle.diag_tp.specs.Link.{pending}
+use Rattle.diag_port.specs.Port.{Grew, HasRoomFor, KeepsFrameRoom}
+use Rattle.diag_port.proofs.Handing.{Handed}
 use Rattle.diag_port.proofs.passing.send_frames.Given as goal
 
 abbrev pub invariant-loop-frame : goal.invariant-loop-frame
 invariant-loop-frame l = record {
-  room : vec_len l.out + pending l.link.state ≤ vec_capacity l.out;
-  grew : Grew l.initial.out.items l.out.items (λ more. AreWithin l.at l.at more
-      × ((s : LinkSetup) (E : List AnEvent) (A : List Placed) (Q : List Sent) → StandsFor s l.initial.link.state E A Q → last_time E ≤ last_tick
-      → StandsFor s l.link.state E A (Q ++ more) × (l.at ≡ last_time E)));
+  classic : l.link.state.setup.framing.tx_dl ≡ Dl8;
+  room : HasRoomFor l.link.state (pending l.link.state) l.out;
+  grew : Grew l.initial.out.items l.out.items (Handed l.initial.link.state l.link.state l.at);
   now : l.at ≡ l.initial.link.state.now;
   time : l.link.state.now ≡ l.initial.link.state.now;
-  unsent : vec_len l.out + unsent l.link.state ≡ vec_len l.initial.out + unsent l.initial.link.state;
-  capacity : vec_capacity l.out ≡ vec_capacity l.initial.out;
+  kept : KeepsFrameRoom l.initial.link.state l.link.state l.initial.out l.out;
   rooms : l.initial.link.reply_room ≤ l.link.reply_room;
 }
 

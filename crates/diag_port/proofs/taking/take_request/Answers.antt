@@ -1,6 +1,7 @@
 use Rattle.std.proofs.Common.{◌≡◌, Some, None, List, ap, refl, subst, sym, ◌∙◌}
 use Rattle.std.proofs.lemmas.Option.{none-some}
-use Rattle.std.specs.Prelude.{option_copied}
+use Rattle.std.proofs.lemmas.Result.{err_from_is_err_and}
+use Rattle.std.specs.Prelude.{IfErr, IsSome, option_copied}
 use Rattle.diag_pdu.specs.declared.step.Step.TheVariants as step
 use Rattle.diag_tp.specs.declared.sent.Sent.{Sent}
 use Rattle.diag_tp.specs.Gives.{gives}
@@ -8,7 +9,9 @@ use Rattle.diag_tp.specs.Link.{EachHistory, asked_of}
 use Rattle.diag_port.specs.declared.port.Port.{Port}
 use Rattle.diag_port.specs.Releasing.{sid_of}
 use Rattle.diag_port.specs.Port.{Grew, Received, port_of}
-use Rattle.diag_port.specs.Standing.{TookEvent, timed_asks}
+use Rattle.diag_port.specs.Fault.{IsFaultBy}
+use Rattle.diag_port.specs.Standing.{GivesStep, TookEvent, timed_asks}
+use Rattle.diag_port.proofs.Faults.{fault_by}
 use Rattle.diag_port.proofs.Standing.{frame_took}
 use Rattle.diag_port.proofs.taking.take_request.Goals as goal
 use Rattle.diag_port.proofs.taking.take_request.Goals.{then-after-eq0+then-is_empty, else-after-eq0}
@@ -53,3 +56,14 @@ returns-clause-took g c =
 
 pub returns-in_default-clause-took : goal.returns-in_default-clause-took
 returns-in_default-clause-took g c = record { asked = None; kept = refl; sent = c.take_silent.ensures.took c.args.who }
+
+pub returns-in_err-after-clause-full : goal.returns-in_err-after-clause-full
+returns-in_err-after-clause-full g c =
+    let old = c.args.port.now in
+    let e = c.args.event.now in
+    let some : GivesStep old.link.state e = λ s E A Q h.
+    subst (λ o. IsSome o) (ap asked_of (sym (ap option_copied c.in-Some.is) ∙ c.request.ensures) ∙ c.requires.prepared.step s E A Q h) refl in
+    let exit = err_from_is_err_and c.from_residual.result c.from_residual.ensures.1 in
+    let P = IsFaultBy g.T.Fault.From.from_gives (g.T.TakeSteps.is_full c.args.taker.now × GivesStep old.link.state e) in
+    subst (λ r. IfErr r P) (sym exit.1)
+    (subst P (sym exit.2) (fault_by g.T.Fault.From.from_gives _ (λ full. (full, some)) c.in_err-after.ensures.full))

@@ -1,4 +1,4 @@
-use Rattle.std.proofs.Common.{◌≡◌, ◌≤◌, length, take, inl, refl, sym, ◌∙◌, arith}
+use Rattle.std.proofs.Common.{◌≤◌, length, take, inl, refl, sym, ◌∙◌, arith}
 use Rattle.std.proofs.lemmas.Result.{IfErr-weaker, IfOk-weaker, err_from_is_err_and}
 use Rattle.diag_run.proofs.Following.{first_read_fails, first_refused, followed_from, given_up, stops_from, stops_from_end, then_on, then_stops}
 use Rattle.diag_run.proofs.Pieces.{halts_within, ok_is_no_fault, other_fault, same_fault}

@@ -8,7 +8,7 @@ use Rattle.diag_run.proofs.replies.add_at.Goals as goal
 pub returns-then-place-len : goal.returns-then-place-len
 returns-then-place-len c =
     let past : length c.args.lines.now.items ≤ c.args.place = omega (arith, c.if-place-len.true, c.len.ensures) in
-    wrote_past c.args.lines.now.items c.args.place c.args.sent.now past
+    wrote_past c.args.lines.now.items c.args.place c.args.sent.now.items past
 
 pub returns : goal.returns
 returns c =
@@ -17,5 +17,5 @@ returns c =
     let within : c.args.place < length lines = omega (arith, c.if-place-len.false, c.len.ensures, c.args.lines.now.ok.0) in
     let found : slice_get lines c.args.place ≡ Some before =
     slice_get_read lines (length lines) c.args.place before refl within c.index_mut.ensures.value in
-    on_ok_weaker c.add.result (λ text. wrote_one lines c.args.place c.args.sent.now before c.add.new.self found c.add.ensures.writer text)
+    on_ok_weaker c.add.result (λ text. wrote_one lines c.args.place c.args.sent.now.items before c.add.new.self found c.add.ensures.writer text)
     c.add.ensures.text

@@ -1,6 +1,6 @@
 use Rattle.std.proofs.Common.{◌≡◌, ◌+◌, ◌∷◌, ◌++◌, [], length, ap, subst, sym, ◌∙◌, arith, inl, inr, length-append}
-use Rattle.diag_setup.specs.Setup.{name_of}
 use Rattle.diag_world.proofs.Worlds.{push_cases, who_found}
+use Rattle.diag_text.specs.Text.{writer_of}
 use Rattle.diag_run.specs.Playing.{Replies}
 use Rattle.diag_run.proofs.replies.unwritten.Goals as goal
 
@@ -17,9 +17,9 @@ loop-index-preserved c =
       none = λ i tester at. elim (push_cases before i added tester (rw grown at at)) [
         | inl p ↦ (
             let place : c.in-Some.who ≡ i + 1 = omega (arith, p.0, inv.many, who) in
-            let own : Replies (name_of setup (i + 1)) added [] =
-            subst (λ t. Replies (name_of setup t) added []) place c.in_ok-tester.ensures in
-            subst (λ t. Replies (name_of setup (i + 1)) t []) (sym p.1) own)
+            let own : Replies (writer_of setup (i + 1)) added [] =
+            subst (λ t. Replies (writer_of setup t) added []) place c.in_ok-tester.ensures in
+            subst (λ t. Replies (writer_of setup (i + 1)) t []) (sym p.1) own)
         | inr p ↦ inv.none i tester p
       ];
     }

@@ -1,4 +1,8 @@
 use Rattle.std.proofs.Common.{ap, ◌∙◌}
+use Rattle.diag_setup.specs.Setup.{is_fd_of}
+use Rattle.diag_setup.specs.declared.raw.RawSetup.{RawSetup}
+use Rattle.diag_bus.specs.Drawn.{Drawn}
+use Rattle.uds_unit.specs.Calls.{told_fd}
 use Rattle.uds_unit.specs.Moments.{moment_us}
 use Rattle.uds_unit.proofs.exports.hand_out.Goals as goal
 
@@ -10,5 +14,8 @@ returns-in-Some-clause-handed c = λ is. record {
   id = c.put.ensures.id;
   tester = c.put.ensures.tester;
   len = c.put.ensures.len;
+  fd = c.put.ensures.fd ∙ ap told_fd (c.is_fd-fd.ensures
+      ∙ (ap (λ (d : Drawn). is_fd_of c.next.new.self.setup d.who) c.drawn.view_is
+      ∙ ap (λ (s : RawSetup). is_fd_of s c.in-Some.drawn.who) c.in-Some.ensures.same.setup));
   bytes = c.put.ensures.bytes;
 }

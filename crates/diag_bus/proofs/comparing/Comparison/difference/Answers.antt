@@ -1,15 +1,14 @@
-use Rattle.std.proofs.Common.{◌≡◌, ℕ, List, Some, None, length, ap, refl, sym, ◌∙◌, arith}
+use Rattle.std.proofs.Common.{◌≡◌, Some, length, ap, refl, sym, ◌∙◌, arith}
 use Rattle.std.proofs.lemmas.List.{nil_from_length}
 use Rattle.std.proofs.lemmas.Option.{slice_get_read}
 use Rattle.std.specs.Prelude.{slice_get}
 use Rattle.diag_port.proofs.Within.{none_of}
-use Rattle.diag_bus.proofs.Apart.{differs_by}
 use Rattle.diag_bus.proofs.Ends.{ahead_is, none_ahead, settled_is}
 use Rattle.diag_bus.proofs.comparing.Comparison.difference.Goals as goal
 
 pub returns-in-Some : goal.returns-in-Some
 returns-in-Some c = λ recorded expected h.
-    ap Some c.same_difference.ensures ∙ sym (settled_is c.args.self.now recorded expected h c.in-Some.settled c.in-Some.is)
+    ap Some c.lent.ensures ∙ sym (settled_is c.args.self.now recorded expected h c.in-Some.settled c.in-Some.is)
 
 pub returns-in-Some-front : goal.returns-in-Some-front
 returns-in-Some-front c = λ recorded expected h.
@@ -18,9 +17,7 @@ returns-in-Some-front c = λ recorded expected h.
     let none = none_of kept.difference c.in_default.not-Some in
     let there : slice_get ahead 0 ≡ Some c.in-Some-front.frame.now =
     slice_get_read ahead (length ahead) 0 c.in-Some-front.frame.now refl c.in-Some-front.ensures.item.3.0 c.in-Some-front.ensures.lookup in
-    let frame = c.in-Some-front.frame.now in
-    ap (λ (b : List ℕ). Some (differs_by (record { line = frame.line; bytes = b }) None)) c.copy.ensures
-    ∙ sym (ahead_is kept recorded expected h none frame there)
+    sym (ahead_is kept recorded expected h none c.in-Some-front.frame.now there)
 
 pub returns-in-None : goal.returns-in-None
 returns-in-None c = λ recorded expected h.

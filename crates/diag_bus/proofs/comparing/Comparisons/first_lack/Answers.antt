@@ -1,46 +1,51 @@
-use Rattle.std.proofs.Common.{◌≡◌, ◌<◌, ◌+◌, ◌++◌, List, Option, Some, None, length, ap, ap₂, refl, sym, ◌∙◌, arith}
+use Rattle.std.proofs.Common.{◌≡◌, ◌<◌, ℕ, List, Some, length, ap, refl, sym, ◌∙◌, arith}
 use Rattle.std.proofs.lemmas.Option.{slice_get_read}
-use Rattle.std.specs.Option.{option_to_list}
-use Rattle.std.specs.Prelude.{option_map, slice_get}
+use Rattle.std.specs.Prelude.{option_copied, slice_get}
 use Rattle.diag_port.proofs.Within.{none_of}
 use Rattle.diag_world.proofs.Worlds.{who_found}
-use Rattle.diag_bus.specs.Verdict.{expected, lack_of, recorded}
 use Rattle.diag_bus.specs.declared.comparing.Comparison.{Comparison}
-use Rattle.diag_bus.specs.declared.verdict.Verdict.{Verdict}
+use Rattle.diag_bus.proofs.Verdicts.{HasLack, lack_found, lack_none, lacks_apart, on_err_of}
 use Rattle.diag_bus.specs.declared.verdict.Verdict.TheVariants.{Lacks}
-use Rattle.diag_bus.proofs.Verdicts.{no_difference, number_more, verdict_lacks}
 use Rattle.diag_bus.proofs.comparing.Comparisons.first_lack.Goals as goal
 
-pub returns-in-Some-lack : goal.returns-in-Some-lack
-returns-in-Some-lack c = λ lines h none.
+pub returns-in-Some-lack-clause-ok : goal.returns-in-Some-lack-clause-ok
+returns-in-Some-lack-clause-ok c =
     let i = c.loop-index.index in
     let setup = c.args.setup.now in
     let items = c.args.self.now.testers.items in
     let own : Comparison = c.index-own.result.now in
     let within : i < length items = omega (arith, c.loop-index-test.true, c.len-index-end.ensures) in
     let here : slice_get items i ≡ Some own = slice_get_read items (length items) i own refl within c.index-own.ensures in
-    let who = who_found setup i c.in-Some.who c.in-Some.ensures in
-    let less : i < length setup.testers = omega (arith, within, c.requires) in
-    let each = h.each i own here in
-    let next : slice_get (expected setup lines (i + 1)) (length (recorded setup lines (i + 1))) ≡ Some c.in-Some-lack.next =
-    sym (c.lack.ensures (recorded setup lines (i + 1)) (expected setup lines (i + 1)) each (no_difference setup lines i none less)) ∙ c.in-Some-lack.is in
-    let v : Verdict = Lacks c.in-Some.who own.count c.in-Some-lack.next in
-    let at : lack_of setup lines (i + 1) ≡ Some v =
-    ap (option_map (Lacks (i + 1) (length (recorded setup lines (i + 1))))) next
-    ∙ ap₂ (λ t n. Some (Lacks t n c.in-Some-lack.next)) (sym who) (sym each.count) in
-    verdict_lacks setup lines i v none (c.loop-index.invariant lines h none) less at
+    let next : List ℕ = c.in-Some-lack.next.now in
+    let has : HasLack own (Some next) = λ r e same none. sym (ap option_copied c.in-Some-lack.is) ∙ c.lack.ensures r e same none in
+    rw c.in_ok-try_copy.ensures.value
+    (lack_found setup c.args.self.now i own here (omega (arith, within, c.requires)) c.in-Some.who next
+    (who_found setup i c.in-Some.who c.in-Some.ensures) has c.loop-index.invariant)
+
+pub returns-in_err-try_copy-clause-err : goal.returns-in_err-try_copy-clause-err
+returns-in_err-try_copy-clause-err c =
+    let i = c.loop-index.index in
+    let setup = c.args.setup.now in
+    let items = c.args.self.now.testers.items in
+    let own : Comparison = c.index-own.result.now in
+    let within : i < length items = omega (arith, c.loop-index-test.true, c.len-index-end.ensures) in
+    let here : slice_get items i ≡ Some own = slice_get_read items (length items) i own refl within c.index-own.ensures in
+    let next : List ℕ = c.in-Some-lack.next.now in
+    let has : HasLack own (Some next) = λ r e same none. sym (ap option_copied c.in-Some-lack.is) ∙ c.lack.ensures r e same none in
+    on_err_of c.from_residual.result (
+      Lacks c.in-Some.who own.count next,
+      lacks_apart c.in-Some.who own.count next,
+      lack_found setup c.args.self.now i own here (omega (arith, within, c.requires)) c.in-Some.who next
+          (who_found setup i c.in-Some.who c.in-Some.ensures) has c.loop-index.invariant,
+    )
 
 pub loop-index-preserved : goal.loop-index-preserved
-loop-index-preserved c = λ lines h none.
+loop-index-preserved c =
     let i = c.loop-index.index in
     let setup = c.args.setup.now in
     let items = c.args.self.now.testers.items in
     let own : Comparison = c.index-own.result.now in
     let within : i < length items = omega (arith, c.loop-index-test.true, c.len-index-end.ensures) in
     let here : slice_get items i ≡ Some own = slice_get_read items (length items) i own refl within c.index-own.ensures in
-    let less : i < length setup.testers = omega (arith, within, c.requires) in
-    let missing : c.lack.result ≡ None = none_of c.lack.result c.in_default-lack.not-Some in
-    let next : slice_get (expected setup lines (i + 1)) (length (recorded setup lines (i + 1))) ≡ None =
-    sym (c.lack.ensures (recorded setup lines (i + 1)) (expected setup lines (i + 1)) (h.each i own here) (no_difference setup lines i none less)) ∙ missing in
-    let at : lack_of setup lines (i + 1) ≡ None = ap (option_map (Lacks (i + 1) (length (recorded setup lines (i + 1))))) next in
-    number_more (lack_of setup lines) i ∙ ap₂ (λ (xs : List Verdict) (o : Option Verdict). xs ++ option_to_list o) (c.loop-index.invariant lines h none) at
+    lack_none setup c.args.self.now i own here (omega (arith, within, c.requires))
+    (λ r e same none. sym (ap option_copied (none_of c.lack.result c.in_default-lack.not-Some)) ∙ c.lack.ensures r e same none) c.loop-index.invariant

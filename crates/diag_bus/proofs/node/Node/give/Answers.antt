@@ -48,7 +48,7 @@ returns-clause-shape g c =
     let here = list_at c.args.self.now c.requires.in_setup c.requires.lists c.index-index.ensures.from_one c.index_mut-out.ensures.value in
     let took = c.in_ok-take.ensures.took in
     shape_one here c.take.new.self c.take.new.out c.after-self.result c.min-self.result took.sent.holds c.is_empty.result
-    c.after-self.ensures c.is_empty.ensures
+    c.after-self.ensures c.is_empty.ensures.0
     (rest_after old.server c.take.new.self c.args.who c.args.event.now took.asked took.sent.more old.rest c.quiet_at.result c.min-self.result
     took.sent.holds c.quiet_at.ensures.is c.min-self.ensures)
 

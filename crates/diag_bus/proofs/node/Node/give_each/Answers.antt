@@ -1,6 +1,9 @@
-use Rattle.std.proofs.Common.{◌-◌, ap, length, refl, arith}
-use Rattle.std.specs.Prelude.{is_some}
+use Rattle.std.proofs.Common.{◌-◌, ap, length, refl, subst, sym, arith}
+use Rattle.std.specs.Prelude.{OnOk, is_some}
 use Rattle.std.proofs.lemmas.Result.{on_ok_weaker}
+use Rattle.diag_can.specs.declared.frame.Event.{Event}
+use Rattle.diag_world.specs.Server.{each_of}
+use Rattle.diag_bus.specs.Node.{Gave, Lasts}
 use Rattle.diag_bus.specs.Sink.{StaysFor}
 use Rattle.diag_bus.proofs.Paces.{ticks_time}
 use Rattle.diag_bus.proofs.Passing.{passed_quietly, stays_kept}
@@ -22,10 +25,14 @@ returns-in-Some g c =
     (omega (arith, c.from.ensures, c.get.ensures.value)) refl
 
 pub returns : goal.returns
-returns g c = record {
-  ok = c.give_to_each.ensures.ok;
-  kept = c.give_to_each.ensures.kept;
-  shape = c.give_to_each.ensures.shape;
-  pace = c.give_to_each.ensures.pace c.args.count (ticks_time c.args.count);
-  sent = on_ok_weaker c.give_to_each.result (λ sent. sent c.args.count (ticks_time c.args.count)) c.give_to_each.ensures.sent;
-}
+returns g c =
+    let count = c.args.count in
+    let most : Lasts c.ticks.result count = subst (λ (e : Event). Lasts e count) (sym c.ticks.ensures) (ticks_time count) in
+    record {
+      ok = subst (λ (e : Event). OnOk c.give_to_each.result (Gave g.S.Sink.took c.args.self.now c.args.sink.now c.give_to_each.new.self c.give_to_each.new.sink
+          (each_of (length c.args.setup.now.testers) e))) c.ticks.ensures c.give_to_each.ensures.ok;
+      kept = c.give_to_each.ensures.kept;
+      shape = c.give_to_each.ensures.shape;
+      pace = c.give_to_each.ensures.pace count most;
+      sent = on_ok_weaker c.give_to_each.result (λ sent. sent count most) c.give_to_each.ensures.sent;
+    }

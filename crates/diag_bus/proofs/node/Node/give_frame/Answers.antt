@@ -1,11 +1,6 @@
-use Rattle.std.proofs.Common.{◌-◌, ◌∷◌, [], ℕ, List, length, refl, ap, subst, sym, arith}
-use Rattle.diag_can.specs.declared.frame.Event.TheVariants.{Physical}
-use Rattle.std.proofs.lemmas.Result.{on_ok_weaker}
-use Rattle.diag_bus.specs.Node.{Gave}
-use Rattle.diag_bus.specs.RequestIds.{IsOwner, given}
-use Rattle.diag_bus.specs.declared.request_ids.Owner.{Owner}
-use Rattle.diag_bus.specs.declared.request_ids.Owner.TheVariants as owner
-use Rattle.diag_bus.proofs.Passing.{passed_as, passed_none, passed_one, stays_kept}
+use Rattle.std.proofs.Common.{List, ℕ, length, refl, ap, sym, ap₂, ◌∙◌}
+use Rattle.diag_bus.specs.RequestIds.{given}
+use Rattle.diag_bus.proofs.Passing.{passed_as, passed_none, stays_kept}
 use Rattle.diag_bus.proofs.node.Node.give_frame.Goals as goal
 
 pub returns-in-Nobody : goal.returns-in-Nobody
@@ -13,33 +8,9 @@ returns-in-Nobody g c =
     passed_as _ _ refl (ap (λ o. given c.args.setup.now c.args.frame.now.id (length c.args.setup.now.testers) o c.args.frame.now.bytes) (sym c.in-Nobody.is))
     (passed_none _ _ (stays_kept g.S.Sink.is_for g.S.Sink.aim) c.args.self.now c.args.sink.now 0)
 
-pub give-requires-clause-in_setup : goal.give-requires-clause-in_setup
-give-requires-clause-in_setup g c =
-    let n = length c.args.setup.now.testers in
-    let owns : IsOwner c.args.setup.now c.args.frame.now.id n (owner.Tester c.in-Tester.who) =
-    subst (λ (o : Owner). IsOwner c.args.setup.now c.args.frame.now.id n o) c.in-Tester.is c.requires.owner in
-    omega (arith, owns.among.0.1, c.requires.in_setup)
-
-pub give-requires-clause-early : goal.give-requires-clause-early
-give-requires-clause-early g c = λ port at.
-    let time = c.requires.early in
-    let low = time.by (c.in-Tester.who - 1) port at in
-    omega (arith, low, time.early)
-
-pub returns-in-Tester : goal.returns-in-Tester
-returns-in-Tester g c =
+pub returns : goal.returns
+returns g c =
     let setup = c.args.setup.now in
-    let id = c.args.frame.now.id in
     let n = length setup.testers in
-    let old = c.args.self.now in
-    passed_as _ _ refl (ap (λ o. given setup id n o c.args.frame.now.bytes) (sym c.in-Tester.is))
-    (passed_one _ _ c.in-Tester.who (Physical c.args.frame.now.bytes) (λ now. omega arith)
-    (on_ok_weaker c.give.result
-    (λ gave. subst (λ (bytes : List ℕ). Gave g.S.Sink.took old c.args.sink.now c.give.new.self c.give.new.sink ((c.in-Tester.who, Physical bytes) ∷ []))
-    c.bytes.ensures gave) c.give.ensures.ok)
-    c.give.ensures.kept c.give.ensures.shape (λ span now. c.give.ensures.pace span now) (on_ok_weaker c.give.result (λ sent span now. sent span now) c.give.ensures.sent))
-
-pub returns-in-Functional : goal.returns-in-Functional
-returns-in-Functional g c =
-    passed_as _ _ refl (ap (λ o. given c.args.setup.now c.args.frame.now.id (length c.args.setup.now.testers) o c.args.frame.now.bytes) (sym c.in-Functional.is))
-    c.give_functional.ensures
+    passed_as _ _ refl (ap₂ (λ id (bytes : List ℕ). given setup id n c.args.owner bytes) c.id.ensures (c.as_slice.ensures.bytes ∙ c.bytes-bytes.ensures))
+    c.give_bytes.ensures

@@ -16,6 +16,7 @@ give_functional_to-requires g c =
     let who = who_found c.args.setup.now c.loop-index.index c.in-Some.who c.in-Some.ensures in
     let within = c.testers-index-end.ensures.same in
     record {
+      fits = c.requires.fits;
       known = omega (arith, who, within, c.loop-index-test.true);
       in_setup = omega (arith, who, within, c.loop-index-test.true, inv.shape.ports, c.requires.in_setup);
       lists = omega (arith, inv.shape.ports, inv.shape.lists, c.requires.in_setup, c.requires.lists);
@@ -25,7 +26,7 @@ give_functional_to-requires g c =
 pub loop-index-preserved : goal.loop-index-preserved
 loop-index-preserved g c =
     let who = who_found c.args.setup.now c.loop-index.index c.in-Some.who c.in-Some.ensures in
-    passed_as _ _ refl (sym (functional_more c.args.setup.now c.args.frame.now.id c.args.frame.now.bytes c.loop-index.index c.in-Some.who who))
+    passed_as _ _ refl (sym (functional_more c.args.setup.now c.args.id c.args.bytes.now c.loop-index.index c.in-Some.who who))
     (passed_then _ _ (stays_kept g.S.Sink.is_for g.S.Sink.aim) 0 (omega arith) c.loop-index.invariant c.in_ok-give_functional_to.ensures)
 
 pub returns-in_err-give_functional_to : goal.returns-in_err-give_functional_to
@@ -36,4 +37,4 @@ returns-in_err-give_functional_to g c =
 pub returns : goal.returns
 returns g c =
     let ended : c.loop-index.index ≡ length c.args.setup.now.testers = omega (arith, c.testers-index-end.ensures.same, c.loop-index.auto.index-end, c.loop-index-test.false) in
-    passed_as _ _ refl (ap (λ n. functional_to_all c.args.setup.now c.args.frame.now.id n c.args.frame.now.bytes) ended) c.loop-index.invariant
+    passed_as _ _ refl (ap (λ n. functional_to_all c.args.setup.now c.args.id n c.args.bytes.now) ended) c.loop-index.invariant

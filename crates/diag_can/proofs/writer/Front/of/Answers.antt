@@ -1,13 +1,19 @@
-use Rattle.std.proofs.Common.{◌+◌, ◌-◌, ◌<◌, length, arith, rules}
-use Rattle.diag_can.proofs.Hex.{front_is}
+use Rattle.std.proofs.Common.{◌<◌, [], ◌∷◌, subst, arith, rules}
+use Rattle.diag_can.specs.Writer.{IsText}
+use Rattle.diag_can.proofs.Hex.{id_front}
 use Rattle.diag_can.proofs.writer.Front.of.Goals as goal
 
-pub returns : goal.returns
-returns c =
-    let name = c.args.name.now in
+pub returns-in-None : goal.returns-in-None
+returns-in-None c =
+    let flags_are = c.in-None.is in
     let below : c.args.id < 2048 = search (rules, arith) in
-    record {
-      short = omega arith;
-      text = λ _. front_is name c.copy_from_slice.new.self _ c.copy_from_slice-2.new.self c.identifier.result (length name + 5 - length name) c.args.id
-          c.copy_from_slice.ensures.after c.copy_from_slice-2.ensures.after below c.identifier.ensures;
-    }
+    rw flags_are (subst (IsText c.made.result) (id_front c.args.name.now c.identifier.result (35 ∷ []) c.args.id below c.identifier.ensures)
+    c.made.ensures)
+
+pub returns-in-Some : goal.returns-in-Some
+returns-in-Some c =
+    let flags_are = c.in-Some.is in
+    let digit = c.flags_digit.ensures in
+    let below : c.args.id < 2048 = search (rules, arith) in
+    rw (flags_are, digit) (subst (IsText c.made-in-Some.result)
+    (id_front c.args.name.now c.identifier.result (35 ∷ 35 ∷ c.flags_digit.result ∷ []) c.args.id below c.identifier.ensures) c.made-in-Some.ensures)

@@ -1,7 +1,8 @@
-use Rattle.std.proofs.Common.{◌≡◌, ℕ, List, [], Option, Some, None, ap, subst, sym, ◌∙◌}
+use Rattle.std.proofs.Common.{◌≡◌, ℕ, List, [], ◌∷◌, Option, Some, None, ap, subst, sym, ◌∙◌}
 use Rattle.std.proofs.lemmas.Result.{on_ok_weaker}
 use Rattle.std.specs.Prelude.{option_copied, OnOk}
 use Rattle.diag_can.specs.Log.{waited}
+use Rattle.diag_can.specs.declared.frame.Event.TheVariants.{Physical}
 use Rattle.diag_exchange.specs.declared.happening.Over.{Over}
 use Rattle.diag_listen.specs.Listening.{Hears}
 use Rattle.diag_judge.specs.Judging.{HearsLine}
@@ -23,7 +24,9 @@ returns-in-Some-clause-heard c =
     (sym is)
     (on_ok_weaker c.take.result (λ last.
     line_heard c.args.setup.now c.args.at own c.wait.new.self asked c.take.new.self [] c.wait.new.over.items later c.take.new.over.items c.args.span
-    entered (Some c.in-Some.frame.now) time c.in_ok-hear_requests.ensures.heard (c.hear_requests.ensures.link_setup ∙ c.wait.ensures.setup) last) c.take.ensures.heard)
+    entered (Some c.in-Some.frame.now) time c.in_ok-hear_requests.ensures.heard (c.hear_requests.ensures.link_setup ∙ c.wait.ensures.setup) (subst
+    (λ (bytes : List ℕ). Hears asked c.take.new.self later c.take.new.over.items c.args.at (Physical bytes ∷ [])) c.as_slice.ensures.bytes last))
+    c.take.ensures.heard)
 
 pub returns-in-None-clause-heard : goal.returns-in-None-clause-heard
 returns-in-None-clause-heard c =

@@ -18,10 +18,10 @@ returns-clause-moves c =
     let handed = c.lose.new.over.items in
     let all = c.come.new.over.items in
     let start = c.start_of.result in
-    let message = c.in_place.result in
+    let message = c.in_ok-message.message in
     let new : Listener = record { setup = c.lose.new.self.setup; receiver = c.lose.new.self.receiver; exchanges = last } in
     let first : Began start ≡ began c.args.at c.args.payload.now = c.start_of.ensures in
-    let whole : message ≡ c.args.payload.now = c.in_place.ensures ∙ c.from_slice.ensures in
+    let whole : message ≡ c.args.payload.now = c.in_ok-message.ensures.value in
     both_ok c.come.result _ _ _ c.come.ensures.ok c.come.ensures.coming (λ came none hs s e.
     has_moved old.exchanges new out all (lost_if (is_some old.exchanges.coming) ++ Began start ∷ Came message ∷ [])
     (lost_if (is_some old.receiver.partial) ++ began c.args.at c.args.payload.now ∷ Came c.args.payload.now ∷ []) None

@@ -1,6 +1,6 @@
 use Rattle.std.proofs.Common.{◌≡◌, ◌≤◌, None, arith, rules}
 use Rattle.std.specs.Prelude.{min}
-use Rattle.diag_listen.proofs.Hearing.{then_ok, waits_none, waits_some}
+use Rattle.diag_listen.proofs.Hearing.{then_ok, waits_none, waits_not, waits_some}
 use Rattle.diag_listen.proofs.listener.Listener.wait.Goals as goal
 
 pub returns-then-is_none-clause-heard : goal.returns-then-is_none-clause-heard
@@ -16,3 +16,8 @@ returns-in-Some-clause-heard c =
     then_ok c.pass.result _ _ c.pass.ensures.moves (λ moves.
     waits_some c.args.self.now c.pass.new.self c.args.over.now.items c.pass.new.over.items c.args.at c.args.ms c.in-Some.count is some
     within c.pass.ensures.setup moves)
+
+pub returns-in-None-clause-heard : goal.returns-in-None-clause-heard
+returns-in-None-clause-heard c =
+    let none : c.args.ms ≡ 0 = grind (arith, c.in-None.ensures.found, c.min.ensures, c.from.ensures) in
+    waits_not c.args.self.now c.args.over.now.items c.args.at c.args.ms none

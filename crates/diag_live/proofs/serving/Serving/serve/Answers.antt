@@ -1,3 +1,4 @@
+use Rattle.diag_can.specs.declared.frame.KnownId.{KnownId}
 use Rattle.std.proofs.Common.{◌≡◌, ◌+◌, ◌-◌, ◌^◌, ℕ, List, min, [], refl, ap, ◌∙◌, subst, arith}
 use Rattle.std.proofs.KnownBytes.{Appends-nil}
 use Rattle.std.proofs.lemmas.Result.{IfErr-weaker, err_from_is_err_and, on_ok_weaker}
@@ -11,7 +12,7 @@ use Rattle.diag_live.proofs.Servings.{bad_line_halts, bad_serve_halts, refused_h
 use Rattle.diag_live.proofs.serving.Serving.serve.Goals as goal
 
 -- what is read is what the setup has
-known_is : {g : Ghosts Replies} (known : List ℕ) (bus : BusState Replies) (mid old : Capture Replies g) → known ≡ known_ids bus.setup → bus ≡ mid.bus → mid ≡ old
+known_is : {g : Ghosts Replies} (known : List KnownId) (bus : BusState Replies) (mid old : Capture Replies g) → known ≡ known_ids bus.setup → bus ≡ mid.bus → mid ≡ old
     → known ≡ known_ids old.bus.setup
 known_is {g} known bus mid old by same kept = by ∙ (ap (λ (b : BusState Replies). known_ids b.setup) same ∙ ap (λ (c : Capture Replies g). known_ids c.bus.setup) kept)
 

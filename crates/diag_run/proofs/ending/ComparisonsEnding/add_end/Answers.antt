@@ -11,20 +11,34 @@ returns-in_ok-extend_from_slice-in-Agrees-clause-ok c =
     record {
       more = agreed.items;
       grown = c.in_ok-extend_from_slice-in-Agrees.ensures.items ∙ ap (λ w. c.args.text.now.items ++ w) c.as_slice.ensures.value;
-      holds = λ lines took ecu. ap (judged_by setup lines) (sym (c.in-Agrees.ensures lines took))
+      holds = λ lines took ecu. ap (judged_by setup lines) (sym (c.in-Ok.ensures.ok lines took) ∙ c.in-Agrees.is)
           ∙ ap₂ (λ (w : List ℕ) n. Ok (end_with w n)) (sym (c.in_ok-agreed-in-Agrees.ensures lines took)) (sym (c.agreement_status.ensures lines took));
     }
 
-pub returns-in_default : goal.returns-in_default
-returns-in_default c =
+pub returns-in_default-verdict : goal.returns-in_default-verdict
+returns-in_default-verdict c =
     let setup = c.args.setup.now in
-    let v = c.verdict.result in
+    let v = c.in-Ok.verdict in
     record {
       ok = tt;
       err = (
         verdict_text setup v,
         subst (λ o. IfSome o (λ t. t.items ≡ verdict_text setup v)) (sym c.ok-told.ensures.value) (ok_line c.verdict_text.result (verdict_text setup v) c.verdict_text.ensures),
-        λ lines took ecu. ap (judged_by setup lines) (sym (c.verdict.ensures lines took)) ∙ told_otherwise setup lines v c.in_default.not-Agrees,
+        λ lines took ecu. ap (judged_by setup lines) (sym (c.in-Ok.ensures.ok lines took)) ∙ told_otherwise setup lines v c.in_default-verdict.not-Agrees,
+      );
+      kept = refl;
+    }
+
+pub returns-in_default : goal.returns-in_default
+returns-in_default c =
+    let setup = c.args.setup.now in
+    let other = c.in_default.ensures.err in
+    record {
+      ok = tt;
+      err = (
+        verdict_text setup other.0,
+        tt,
+        λ lines took ecu. ap (judged_by setup lines) (sym (other.2 lines took)) ∙ told_otherwise setup lines other.0 other.1,
       );
       kept = refl;
     }

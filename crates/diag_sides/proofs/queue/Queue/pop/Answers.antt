@@ -7,7 +7,7 @@ use Rattle.diag_sides.proofs.queue.Queue.pop.Goals as goal
 pub overflow_sub-self : goal.overflow_sub-self
 overflow_sub-self c =
     let sum = c.self.invariant.0 in
-    let all = ap (sum_by frames_of) c.in_ok-message.ensures.items ∙ sum_by-cons frames_of c.in_ok-message.message c.pop_front.new.self.items in
+    let all = ap (sum_by (frames_of c.self.inside.tx_dl)) c.in_ok-message.ensures.items ∙ sum_by-cons (frames_of c.self.inside.tx_dl) c.in_ok-message.message c.pop_front.new.self.items in
     let counted = c.frames_of.ensures.count in
     let less = c.from.ensures in
     omega arith
@@ -17,11 +17,12 @@ invariant_of-self c = rw (← c.in_err-message.ensures.items) c.self.invariant
 
 pub invariant_of-self-2 : goal.invariant_of-self-2
 invariant_of-self-2 c =
+    let d = c.self.inside.tx_dl in
     let held = c.self.invariant in
     let split = c.in_ok-message.ensures.items in
-    let short = subst (λ l. All (λ P. frames_of P ≤ 10000) l) split held.1 in
+    let short = subst (λ l. All (λ P. frames_of d P ≤ 10000) l) split held.1 in
     let sum = held.0 in
-    let all = ap (sum_by frames_of) split ∙ sum_by-cons frames_of c.in_ok-message.message c.pop_front.new.self.items in
+    let all = ap (sum_by (frames_of d)) split ∙ sum_by-cons (frames_of d) c.in_ok-message.message c.pop_front.new.self.items in
     let counted = c.frames_of.ensures.count in
     let less = c.from.ensures in
     let most = held.2 in

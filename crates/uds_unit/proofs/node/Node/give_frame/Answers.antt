@@ -1,23 +1,22 @@
-use Rattle.std.proofs.Common.{◌-◌, ◌∷◌, [], ℕ, List, length, refl, ap, subst, sym, arith}
-use Rattle.std.proofs.lemmas.Result.{on_ok_weaker}
-use Rattle.diag_can.specs.declared.frame.Event.TheVariants.{Physical}
+use Rattle.std.proofs.Common.{◌-◌, ◌∷◌, [], length, refl, ap, subst, sym, ◌∙◌, arith}
+use Rattle.diag_can.specs.declared.frame.Event.{Event}
+use Rattle.diag_bus.specs.Node.{Lasts}
 use Rattle.diag_bus.specs.RequestIds.{IsOwner, given}
 use Rattle.diag_bus.specs.declared.request_ids.Owner.{Owner}
 use Rattle.diag_bus.specs.declared.request_ids.Owner.TheVariants as owner
-use Rattle.uds_unit.specs.Node.{Gave}
 use Rattle.uds_unit.proofs.Passing.{passed_as, passed_none, passed_one}
 use Rattle.uds_unit.proofs.node.Node.give_frame.Goals as goal
 
 pub returns-in-Nobody : goal.returns-in-Nobody
 returns-in-Nobody c =
-    passed_as refl (ap (λ o. given c.args.setup.now c.args.frame.now.id (length c.args.setup.now.testers) o c.args.frame.now.bytes) (sym c.in-Nobody.is))
+    passed_as refl (ap (λ o. given c.args.setup.now c.args.id (length c.args.setup.now.testers) o c.args.bytes.now) (sym c.in-Nobody.is))
     (passed_none c.args.self.now 0)
 
 pub give-requires-clause-in_setup : goal.give-requires-clause-in_setup
 give-requires-clause-in_setup c =
     let n = length c.args.setup.now.testers in
-    let owns : IsOwner c.args.setup.now c.args.frame.now.id n (owner.Tester c.in-Tester.who) =
-    subst (λ (o : Owner). IsOwner c.args.setup.now c.args.frame.now.id n o) c.in-Tester.is c.requires.owner in
+    let owns : IsOwner c.args.setup.now c.args.id n (owner.Tester c.in-Tester.who) =
+    subst (λ (o : Owner). IsOwner c.args.setup.now c.args.id n o) c.in-Tester.is c.requires.owner in
     omega (arith, owns.among.0.1, c.requires.in_setup)
 
 pub give-requires-clause-early : goal.give-requires-clause-early
@@ -28,17 +27,13 @@ give-requires-clause-early c = λ port at.
 
 pub returns-in-Tester : goal.returns-in-Tester
 returns-in-Tester c =
-    let setup = c.args.setup.now in
-    let id = c.args.frame.now.id in
-    let n = length setup.testers in
-    passed_as refl (ap (λ o. given setup id n o c.args.frame.now.bytes) (sym c.in-Tester.is))
-    (passed_one c.in-Tester.who (Physical c.args.frame.now.bytes) (λ now. omega arith)
-    (on_ok_weaker c.give.result
-    (λ gave. subst (λ (bytes : List ℕ). Gave c.args.self.now c.give.new.self ((c.in-Tester.who, Physical bytes) ∷ [])) c.copy.ensures gave)
-    c.give.ensures.ok)
-    c.give.ensures.shape (λ span now. c.give.ensures.pace span now))
+    let who = c.in-Tester.who in
+    let now : Lasts c.physical.result 0 = subst (λ (e : Event). Lasts e 0) (sym c.physical.ensures) (λ now. omega arith) in
+    passed_as refl (ap (λ (e : Event). (who, e) ∷ []) c.physical.ensures
+    ∙ ap (λ o. given c.args.setup.now c.args.id (length c.args.setup.now.testers) o c.args.bytes.now) (sym c.in-Tester.is))
+    (passed_one who c.physical.result now c.give.ensures.ok c.give.ensures.shape c.give.ensures.pace)
 
 pub returns-in-Functional : goal.returns-in-Functional
 returns-in-Functional c =
-    passed_as refl (ap (λ o. given c.args.setup.now c.args.frame.now.id (length c.args.setup.now.testers) o c.args.frame.now.bytes) (sym c.in-Functional.is))
+    passed_as refl (ap (λ o. given c.args.setup.now c.args.id (length c.args.setup.now.testers) o c.args.bytes.now) (sym c.in-Functional.is))
     c.give_functional.ensures

@@ -1,11 +1,11 @@
-use Rattle.std.proofs.Common.{◌≡◌, ◌∷◌, [], ℕ, List, refl, ap, subst, sym, ◌∙◌, arith}
+use Rattle.std.proofs.Common.{◌≡◌, ◌∷◌, [], refl, ap, subst, sym, ◌∙◌, arith}
 use Rattle.std.proofs.lemmas.Bool.{eq-eqb, eqb-true}
-use Rattle.std.proofs.lemmas.Result.{on_ok_weaker}
+use Rattle.diag_can.specs.declared.frame.Event.{Event}
 use Rattle.diag_can.specs.declared.frame.Event.TheVariants.{Functional}
 use Rattle.diag_can.specs.declared.frame.Ids.{Ids}
 use Rattle.diag_setup.specs.Setup.{ids_of}
+use Rattle.diag_bus.specs.Node.{Lasts}
 use Rattle.diag_bus.specs.RequestIds.{functional_to}
-use Rattle.uds_unit.specs.Node.{Gave}
 use Rattle.uds_unit.proofs.Passing.{passed_as, passed_one}
 use Rattle.uds_unit.proofs.node.Node.give_functional_to.Goals as goal
 
@@ -13,13 +13,11 @@ pub returns-then-eq : goal.returns-then-eq
 returns-then-eq c =
     let setup = c.args.setup.now in
     let who = c.args.who in
-    let frame = c.args.frame.now in
-    let same = eqb-true frame.id c.ids.result.functional (sym c.eq.ensures ∙ c.if-eq.true) in
-    let asks : frame.id ≡ (ids_of setup who).functional = same ∙ ap (λ (i : Ids). i.functional) c.ids.ensures in
-    let to_it : (who, Functional frame.bytes) ∷ [] ≡ functional_to setup frame.id frame.bytes who =
-    rw (eq-eqb frame.id (ids_of setup who).functional asks) refl in
-    passed_as refl to_it
-    (passed_one who (Functional frame.bytes) (λ now. omega arith)
-    (on_ok_weaker c.give.result
-    (λ gave. subst (λ (bytes : List ℕ). Gave c.args.self.now c.give.new.self ((who, Functional bytes) ∷ [])) c.copy.ensures gave) c.give.ensures.ok)
-    c.give.ensures.shape (λ span now. c.give.ensures.pace span now))
+    let id = c.args.id in
+    let same = eqb-true id c.ids.result.functional (sym c.eq.ensures ∙ c.if-eq.true) in
+    let asks : id ≡ (ids_of setup who).functional = same ∙ ap (λ (i : Ids). i.functional) c.ids.ensures in
+    let to_it : (who, Functional c.args.bytes.now) ∷ [] ≡ functional_to setup id c.args.bytes.now who =
+    rw (eq-eqb id (ids_of setup who).functional asks) refl in
+    let now : Lasts c.functional.result 0 = subst (λ (e : Event). Lasts e 0) (sym c.functional.ensures) (λ now. omega arith) in
+    passed_as refl (ap (λ (e : Event). (who, e) ∷ []) c.functional.ensures ∙ to_it)
+    (passed_one who c.functional.result now c.give.ensures.ok c.give.ensures.shape c.give.ensures.pace)

@@ -1,4 +1,4 @@
-use Rattle.std.proofs.Common.{◌≡◌, refl, ap, length, sym, ◌∙◌, arith}
+use Rattle.std.proofs.Common.{◌≡◌, Some, refl, ap, length, sym, ◌∙◌, arith}
 use Rattle.std.specs.List.{flat_map}
 use Rattle.diag_pdu.specs.Cut.{counted_from}
 use Rattle.diag_bus.specs.Events.{frame_to}
@@ -18,9 +18,10 @@ pub returns-in-Some : goal.returns-in-Some
 returns-in-Some c =
     let setup = c.args.setup.now in
     let n = length setup.testers in
-    let owns : IsOwner setup c.in-Some.frame.id n c.owner.result = c.owner.ensures in
-    let frames : flat_map (frame_to setup c.args.frame) (counted_from 1 n) ≡ given setup c.in-Some.frame.id n c.owner.result c.in-Some.frame.bytes =
-    ap (λ f. flat_map (frame_to setup f) (counted_from 1 n)) c.in-Some.is ∙ owns.gives c.in-Some.frame.bytes in
+    let frame = c.frame.inside in
+    let owns : IsOwner setup frame.id n c.owner.result = c.owner.ensures in
+    let frames : flat_map (frame_to setup c.args.frame) (counted_from 1 n) ≡ given setup frame.id n c.owner.result frame.bytes.now =
+    ap (λ f. flat_map (frame_to setup f) (counted_from 1 n)) (c.in-Some.is ∙ ap Some (sym c.frame.view_is)) ∙ owns.gives frame.bytes.now in
     passed_then c.args.ms (omega arith) c.in_ok-pass.ensures (passed_as refl (sym frames) c.give_frame.ensures)
 
 pub returns-in-None : goal.returns-in-None

@@ -1,0 +1,9 @@
+use Rattle.std.proofs.Common.{length}
+use Rattle.diag_can.proofs.FdTexts.{IsRead}
+use Rattle.diag_can.proofs.frame_text.bytes_of.Given as goal
+
+abbrev pub invariant-loop-sixteen : goal.invariant-loop-sixteen
+invariant-loop-sixteen l = IsRead l.digits l.rest l.bytes
+
+abbrev pub decreases-loop-sixteen : goal.decreases-loop-sixteen
+decreases-loop-sixteen l = length l.rest

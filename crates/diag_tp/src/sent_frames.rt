@@ -1,0 +1,222 @@
+//! Lists of frames that were sent.
+
+ghost use Rattle.std.specs.Prelude.{◌≡◌, ◌<◌, ◌≤◌, ◌+◌, ◌++◌, [], ◌∷◌, length, slice_get, Some, OnOk, IfOk, IsTrue, ◌↔◌, ◌^◌, vec_capacity};
+ghost use Rattle.diag_tp.specs.declared.sent.Sent.{Sent as ASent};
+ghost use Rattle.diag_tp.specs.SentFrames.{HasRoom};
+
+use crate::sent::Sent;
+use diag_can::{CanId, FdBytes, Frame};
+use diag_pdu::DataLength;
+use std::alloc::{AllocError, Global};
+use std::marker::Model;
+
+/// A frame of either kind, on its identifier.
+#[derive(Drop)]
+pub struct FdFrame {
+    /// Its identifier.
+    pub id: CanId,
+    /// Its data, up to 64 bytes.
+    pub bytes: FdBytes,
+}
+
+/// A frame of either kind, and the time in ticks at which it goes.
+#[derive(Drop)]
+struct LongSent {
+    at: u64,
+    frame: FdFrame,
+}
+
+impl Model for LongSent {
+    ghost use Rattle.diag_tp.specs.declared.sent.Sent.{Sent as ASent};
+
+    ghost Value = { ASent };
+
+    ghost view = { λ s. record { at = s.at; frame = record { id = s.frame.id; bytes = s.frame.bytes } } };
+}
+
+/// Frames of up to 8 bytes, or of up to 64.
+#[derive(Drop)]
+enum FrameList {
+    Short(Vec<Sent>),
+    Long(Vec<LongSent>),
+}
+
+/// Frames that a tester was sent, in order. Where they are classic frames, as nearly all are, they take no more room than
+/// these; `reserve` for longer ones moves the list over, once.
+#[derive(Drop)]
+pub struct SentFrames {
+    list: FrameList,
+}
+
+impl Model for SentFrames {
+    ghost use Rattle.diag_tp.specs.SentFrames.{SentList, list_of};
+
+    ghost Value = { SentList };
+
+    ghost view = { λ a. list_of a.list };
+}
+
+impl SentFrames {
+    /// No frames.
+    pub fn new(alloc: Global) -> SentFrames
+        ensures { result.items ≡ [] }
+    {
+        SentFrames {
+            list: FrameList::Short(Vec::new(alloc)),
+        }
+    }
+
+    /// Makes room for so many more frames of a side that sends frames of up to this length. Refused where memory is; the
+    /// frames stay.
+    #[inline(always)]
+    pub fn reserve(&mut self, tx_dl: DataLength, count: usize) -> Result<(), AllocError>
+        ensures same { self.new.items ≡ self.old.items }
+        ensures room { OnOk result (HasRoom tx_dl count self.new) }
+        ensures small { self.new.room < 2 ^ 63 }
+    {
+        match &mut self.list {
+            FrameList::Short(list) if matches!(tx_dl, DataLength::Dl8) => list.reserve(count),
+            FrameList::Short(list) => {
+                self.list = FrameList::Long(lengthened(list.as_slice(), *list.allocator(), count)?);
+                Ok(())
+            }
+            FrameList::Long(list) => list.reserve(count),
+        }
+    }
+
+    /// Adds a classic frame, which goes at this time.
+    #[inline(always)]
+    pub fn push(&mut self, at: u64, frame: Frame)
+        requires { 0 < self.old.room }
+        ensures items { self.new.items ≡ self.old.items ++ record { at = at; frame = frame } ∷ [] }
+        ensures room { self.old.room ≡ self.new.room + 1 }
+        ensures long_room { self.old.long_room ≤ self.new.long_room + 1 }
+    {
+        match &mut self.list {
+            FrameList::Short(list) => list.push_reserved(Sent { at, frame }),
+            FrameList::Long(list) => list.push_reserved(LongSent {
+                at,
+                frame: FdFrame {
+                    id: frame.id,
+                    bytes: FdBytes::of_short(&frame.bytes),
+                },
+            }),
+        }
+    }
+
+    /// Adds a frame of either kind, which goes at this time.
+    #[inline(never)]
+    pub fn push_long(&mut self, at: u64, frame: FdFrame)
+        requires { 0 < self.old.long_room }
+        ensures items { self.new.items ≡ self.old.items
+            ++ record { at = at; frame = record { id = frame.id; bytes = frame.bytes } } ∷ [] }
+        ensures room { self.old.room ≡ self.new.room + 1 }
+        ensures long_room { self.old.long_room ≡ self.new.long_room + 1 }
+    {
+        match &mut self.list {
+            FrameList::Short(_) => unreachable!(),
+            FrameList::Long(list) => list.push_reserved(LongSent { at, frame }),
+        }
+    }
+
+    /// Takes all frames out; the room for them stays.
+    #[inline(always)]
+    pub fn clear(&mut self)
+        ensures { self.new.items ≡ [] }
+    {
+        match &mut self.list {
+            FrameList::Short(list) => list.clear(),
+            FrameList::Long(list) => list.clear(),
+        }
+    }
+
+    /// Whether there are none.
+    #[inline(always)]
+    pub fn is_empty(&self) -> bool
+        ensures { IsTrue result ↔ (self.now.items ≡ []) }
+    {
+        match &self.list {
+            FrameList::Short(list) => list.is_empty(),
+            FrameList::Long(list) => list.is_empty(),
+        }
+    }
+
+    /// How many there are.
+    #[inline(always)]
+    pub fn len(&self) -> usize
+        ensures { result ≡ length self.now.items }
+    {
+        match &self.list {
+            FrameList::Short(list) => list.len(),
+            FrameList::Long(list) => list.len(),
+        }
+    }
+
+    /// The frame at this index, from 0.
+    #[inline(always)]
+    pub fn get(&self, index: usize) -> SentFrame<'_>
+        requires { index < length self.now.items }
+        ensures { slice_get self.now.items index ≡ Some result }
+    {
+        match &self.list {
+            FrameList::Short(list) => {
+                let sent = &list[index];
+                SentFrame {
+                    at: sent.at,
+                    id: sent.frame.id,
+                    bytes: sent.frame.bytes.as_slice(),
+                }
+            }
+            FrameList::Long(list) => {
+                let sent = &list[index];
+                SentFrame {
+                    at: sent.at,
+                    id: sent.frame.id,
+                    bytes: sent.frame.bytes.as_slice(),
+                }
+            }
+        }
+    }
+}
+
+/// A frame that was sent, with its time in ticks; its bytes are lent.
+#[derive(Drop)]
+pub struct SentFrame<'a> {
+    /// The ticks of its tester until then.
+    pub at: u64,
+    /// Its identifier, the tester's response identifier.
+    pub id: CanId,
+    /// Its data, up to 64 bytes.
+    pub bytes: &'a [u8],
+}
+
+impl<'a> Model for SentFrame<'a> {
+    ghost use Rattle.std.specs.Prelude.{length, ◌≤◌};
+    ghost use Rattle.diag_tp.specs.declared.sent.Sent.{Sent as ASent};
+
+    ghost Value = { ASent };
+
+    ghost view = { λ s. record { at = s.at; frame = record { id = s.id; bytes = s.bytes.now } } };
+
+    ghost invariant = { λ s. length s.bytes.now ≤ 64 };
+}
+
+/// These frames where longer ones have room, too, and room for so many more.
+#[cold]
+#[inline(never)]
+fn lengthened(list: &[Sent], alloc: Global, count: usize) -> Result<Vec<LongSent>, AllocError>
+    ensures { IfOk result (λ longer. (longer.items ≡ list.now)
+        × (length list.now + count ≤ vec_capacity longer)) }
+{
+    let mut longer = Vec::with_capacity(alloc, list.len().saturating_add(count))?;
+    for sent in list {
+        longer.push_reserved(LongSent {
+            at: sent.at,
+            frame: FdFrame {
+                id: sent.frame.id,
+                bytes: FdBytes::of_short(&sent.frame.bytes),
+            },
+        });
+    }
+    Ok(longer)
+}
