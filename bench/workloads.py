@@ -29,7 +29,7 @@ from bus import moment_of
 from runs import NAMES, PROGRAM, TOP, setup, stamped, turn, watched
 
 # the lines of the two short runs whose difference tells the instructions of a line
-SHORT = 3_000
+SHORT = 20_000
 # the commands whose captures have the unit's own frames
 RECORDINGS = (["verify"], ["compare"])
 # a request of a tester of 29 bits, by normal fixed addressing

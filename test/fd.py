@@ -1,10 +1,10 @@
 #!/usr/bin/env python3
 """Runs the built program with testers that talk by CAN FD beside small models of docs/FORMATS.md: each identifier with every
-rest; messages of 1 to 65535 bytes both ways, in frames of each length, by testers of 11 and of 29 bits and a classic one at
-once, with the journal, its replay and both verdicts; captures of classic testers of which the frames are made such of CAN FD,
-which has to change nothing else; recordings with both through log2asc and asc2log, whose lines are those of candump and
-canplayer, and through python-can, and what scapy and Wireshark read, where these are there; and a live run. The last line is
-'N passed, M failed'."""
+rest, in a capture and in each tester's log; messages of 1 to 65535 bytes both ways, in frames of each length, by testers of 11
+and of 29 bits and a classic one at once, from a capture and from their logs, with the journal, its replay and both verdicts;
+captures and logs of classic testers of which the frames are made such of CAN FD, which has to change nothing else; recordings
+with both through log2asc and asc2log, whose lines are those of candump and canplayer, and through python-can, and what scapy
+and Wireshark read, where these are there; and a live run. The last line is 'N passed, M failed'."""
 import itertools
 import random
 import re
@@ -110,9 +110,9 @@ def answer(data: bytes) -> list[str]:
     return [REFUSED] if is_single and data[2] == 0x22 else []
 
 
-def said(identifier: str, rest: str) -> list[str]:
-    """What the unit sends where a line with this frame comes. ValueError where it is a fault."""
-    known = [it for it in TESTERS if identifier.upper() in (it.request, it.response, it.functional)]
+def said(testers: list[Tester], identifier: str, rest: str) -> list[str]:
+    """What the unit sends to these testers where a line with this frame comes. ValueError where it is a fault."""
+    known = [it for it in testers if identifier.upper() in (it.request, it.response, it.functional)]
     if not known:
         # (one of 8 digits is passed over; else the line has to be one, of classic CAN)
         _ = len(identifier) == 8 or data_of(TESTERS[2], rest)
@@ -122,15 +122,15 @@ def said(identifier: str, rest: str) -> list[str]:
     return [f"{it.name} {it.frame(sent)}" for it in heard for sent in answer(data)]
 
 
-def sorted_out() -> tuple[list[str], list[str], dict[str, str]]:
-    """The frames that are no fault, what the unit sends to them, and the others with their faults."""
+def sorted_out(testers: list[Tester]) -> tuple[list[str], list[str], dict[str, str]]:
+    """The frames that are no fault in these testers' traffic, what the unit sends to them, and the others with their faults."""
     well, replies, faults = [], [], {}
     # (of the others' one that draws a session is left out)
     rests = [*(f"#{it}" for it in RESTS), *(it for it in addressing.RESTS if it != "#1021003")]
     for identifier, rest in itertools.product(IDENTIFIERS, rests):
         frame = f"{identifier}#{rest}"
         try:
-            replies += said(identifier, rest)
+            replies += said(testers, identifier, rest)
             well.append(frame)
         except ValueError as fault:
             faults[frame] = str(fault)
@@ -141,7 +141,7 @@ def each_rest(room: str) -> None:
     """The lines that are no fault in one run, and each fault in one of its own. On another interface those are no fault that
     have anything behind a second mark."""
     config, path = put(f"{room}/setup", setup_of(TESTERS).encode()), f"{room}/log"
-    well, replies, faults = sorted_out()
+    well, replies, faults = sorted_out(TESTERS)
     put(path, text([stamped(1000, it) for it in well]))
     status, out, tells = run(["bus", config, path])
     sent = [it.partition(") ")[2] for it in out.decode().splitlines()]
@@ -155,6 +155,28 @@ def each_rest(room: str) -> None:
     others = [stamped(1000, it).replace("can0", "can1") for it in [*well, *(it for it in faults if "##" in it)]]
     found = run(["bus", "--interface=can0", config, put(path, text(others))])
     told(found == (0, b"", b""), f"{len(others)} lines of another interface", found)
+
+
+def each_rest_of_a_log(room: str) -> None:
+    """The same in the log of each tester, beside empty ones: another's frames of CAN FD are passed over."""
+    config, nothing = put(f"{room}/setup", setup_of(TESTERS).encode()), put(f"{room}/nothing", b"")
+    for place, tester in enumerate(TESTERS):
+        well, replies, faults = sorted_out([tester])
+        logs = [f"{room}/log" if it is tester else nothing for it in TESTERS]
+        put(f"{room}/log", text([stamped(1000, it) for it in well]))
+        for job in ("serial", "play"):
+            status, out, tells = run([job, config, *logs])
+            sent = [it.partition(") ")[2] for it in out.decode().splitlines() if it.startswith("(")]
+            name = f"{job}: {len(well)} lines that are no fault to {tester.name}, {len(replies)} with an answer"
+            told((status, sent, tells) == (0, replies, b""), name, (status, tells, first_apart(sent, replies)))
+        own = (tester.request, tester.response, tester.functional)
+        faults = {it: fault for it, fault in faults.items() if it.partition("#")[0].upper() in own}
+        wrong = {}
+        for frame, fault in faults.items():
+            found = run(["serial", config, *logs[:place], put(f"{room}/log", text([stamped(1000, frame)])), *logs[place + 1 :]])
+            want = (3, b"", f"uds_play: log {place + 1} line 1: {fault}\n".encode())
+            wrong.update({} if found == want else {frame[:80]: found})
+        told(not wrong, f"serial: {len(faults)} lines that are a fault to {tester.name}", wrong)
 
 
 def first_apart(found: list, wanted: list):
@@ -221,9 +243,10 @@ class Recording:
     """The frames of all testers in turn, a millisecond each, with those of the unit behind each that draws them."""
 
     def __init__(self, link: Setup, tx_dl: int, testers: list[Tester]):
-        # the testers' lines, the unit's, and all; where the unit's stand; the entries of requests; and how many each tester gets
+        # the testers' lines, the unit's, and all; where the unit's stand; the entries of requests; and the lines of each tester,
+        # and the frames to it
         self.lines, self.sent, self.whole, self.places, self.asked = [], [], [], [], []
-        self.count = dict.fromkeys((it.name for it in testers), 0)
+        self.own: dict[str, tuple[list[str], list[str]]] = {it.name: ([], []) for it in testers}
         own = [turns(link, tx_dl, place, it) for place, it in enumerate(testers, 1)]
         for ms, turn in enumerate(it for round_of in itertools.zip_longest(*own) for it in round_of if it):
             self.add(1_000_000 + ms, *turn)
@@ -231,12 +254,14 @@ class Recording:
     def add(self, ms: int, tester: Tester, frame: bytes, asked: str, drawn: list[bytes]) -> None:
         """A tester's frame, the entry of the request that it completes, or none, and what it draws."""
         self.lines.append(stamped(ms, tester.asks(frame.hex().upper(), "0")))
-        own = [f"{moment(ms)} {tester.name} {tester.frame(it.hex().upper())}" for it in drawn]
+        frames = [f"{tester.name} {tester.frame(it.hex().upper())}" for it in drawn]
+        own = [f"{moment(ms)} {it}" for it in frames]
         self.places += range(len(self.whole) + 1, len(self.whole) + 1 + len(own))
         self.whole += [self.lines[-1], *own]
         self.sent += own
         self.asked += [asked] if asked else []
-        self.count[tester.name] += len(own)
+        self.own[tester.name][0].append(self.lines[-1])
+        self.own[tester.name][1].extend(frames)
 
 
 def turns(link: Setup, tx_dl: int, place: int, tester: Tester) -> Iterator[tuple]:
@@ -257,6 +282,7 @@ def messages(room: str) -> None:
         it = Recording(read_setup(config), tx_dl, testers)
         name = f"messages in frames of {tx_dl}, {'padded' if pad else 'not padded'}"
         both_ways(room, name, put(f"{room}/setup", config.encode()), it)
+        from_logs(room, name, f"{room}/setup", it)
         judged(room, name, f"{room}/setup", it)
 
 
@@ -275,10 +301,25 @@ def both_ways(room: str, name: str, config: str, it: Recording) -> None:
     told(found == want, f"{name}: the journal replays", f"{found} in place of {want}")
 
 
+def from_logs(room: str, name: str, config: str, it: Recording) -> None:
+    """What `serial` and `play` write of each tester's lines, at one moment. The lines of the recording come in turns, as those of
+    the logs do, so its requests are in the order of serial's journal."""
+    logs = [put(f"{room}/{tester}", text(lines)) for tester, (lines, _) in it.own.items()]
+    sent = [f"{moment(0)} {frame}" for _, frames in it.own.values() for frame in frames]
+    want = [*sent, "diag-journal 1", *it.asked, "session default", "holder none"]
+    status, out, tells = run(["serial", config, *logs])
+    found = out.decode().splitlines()
+    told((status, found, tells) == (0, want, b""), f"{name}: serial", (status, tells, first_apart(found, want)))
+    # (the threads take any order, but each the requests of its own tester as they stand)
+    status, out, tells = run(["play", config, *logs])
+    found, want = (sorted(lines, key=lambda line: line[:2]) for lines in (out.decode().splitlines(), want))
+    told((status, found, tells) == (0, want, b""), f"{name}: play", (status, tells, first_apart(found, want)))
+
+
 def judged(room: str, name: str, config: str, it: Recording) -> None:
     """The verdicts on a recording with the unit's frames, and with a bit of one of them changed."""
     path = put(f"{room}/recording", text(it.whole))
-    want = "".join(f"{tester} {count} frames agree\n" for tester, count in it.count.items())
+    want = "".join(f"{tester} {len(frames)} frames agree\n" for tester, (_, frames) in it.own.items())
     found = run(["verify", config, path])
     told(found == (0, want.encode(), b""), f"{name}: verify", found)
     status, out, tells = run(["compare", "--differences", config, path])
@@ -348,6 +389,11 @@ def same_texts(room: str, name: str, setup: str, fd_setup: str, lines: list[str]
     classic, found = (run(["bus", *it]) for it in zip(configs, capture))
     want = re.sub(rb"(?m)^(\S+ \S+ [0-9A-F]+)#", rb"\1##" + flags.encode(), classic[1])
     told(found == (0, want, b""), f"{name}: bus", first_apart(found[1].splitlines(), want.splitlines()))
+    # (each tester's log is the whole capture, in which it passes the others' frames over)
+    testers = len(read_setup(setup).testers)
+    logs, found = (run(["serial", "--stamps", config, *[path] * testers]) for config, path in zip(configs, capture))
+    want = re.sub(rb"(?m)^(\(\S+ \S+ [0-9A-F]+)#", rb"\1##" + flags.encode(), logs[1])
+    told(found == (0, want, b""), f"{name}: serial", first_apart(found[1].splitlines(), want.splitlines()))
     sent = classic[1].decode().splitlines()
     whole = sorted([*(it for it in lines if it.startswith("(")), *sent], key=lambda it: it[1:18])
     lost = set(chance.sample(sent, min(3, len(sent))))
@@ -451,7 +497,7 @@ def asks(own: live.Run, data: str, frames: list[str]) -> str:
 
 def main() -> int:
     told.needs_program()
-    told.in_rooms(each_rest, messages, as_classic, others, on_a_bus)
+    told.in_rooms(each_rest, each_rest_of_a_log, messages, as_classic, others, on_a_bus)
     return told.ended()
 
 

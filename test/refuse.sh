@@ -171,6 +171,12 @@ sweep_program() {
     sweep_run "a verdict by CAN FD" 0 runs/verify/fd/stdout '' "$program" --quiet verify runs/fd.toml runs/verify/fd/unit.log
     writes_as_it_goes=1 sweep_run "exchanges by CAN FD" 0 runs/compare/fd/stdout '' \
       "$program" --quiet compare runs/fd.toml runs/compare/fd/capture.log
+    sweep_run "a log by CAN FD" 0 runs/logs/fd_limits/stdout '' \
+      "$program" --quiet serial --stamps runs/fd.toml runs/bus/fd_limits/capture.log runs/empty.log
+    sweep_run "a log by CAN FD, by play" 0 runs/logs/fd_limits/stdout '' \
+      "$program" --quiet play --stamps runs/fd.toml runs/bus/fd_limits/capture.log runs/empty.log
+    sweep_run "a log by CAN FD at fault" 3 "$room/nothing" 'uds_play: log 1 line 3: bad line' \
+      "$program" --quiet serial runs/fd.toml runs/bus/fd_fault/capture.log runs/empty.log
     sweep_run "a capture that is not there" 7 "$room/nothing" 'uds_play: cannot read file 1' "$program" --quiet bus "$room/config" "$room/none"
     printf 's3_m = 1\n[[tester]]\nname = "A"\nrequest = 710\n' > "$room/slips"
     {

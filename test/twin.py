@@ -1,9 +1,9 @@
 #!/usr/bin/env python3
 """Runs the built program over random logs and captures of up to eight testers with random settings of the links and
 random rows of answers, and compares what it sends and journals with the slow twin of test/uds_link.py, which computes
-both from the whole logs by the definitions: `serial` with ticks and with stamps, `play`, and `bus`, which has testers of CAN
-FD, too. The replies' bytes are the journal's own, but for those that a row gives. The logs are the same each time. The last
-line is 'N passed, M failed'.
+both from the whole logs by the definitions: `serial` with ticks and with stamps, `play`, and `bus`, each by classic testers
+and with some by CAN FD. The replies' bytes are the journal's own, but for those that a row gives. The logs are the same each
+time. The last line is 'N passed, M failed'.
 Usage: test/twin.py [RUNS [FIRST]]     so many runs of each kind (default 60), the first with this seed (default 1)"""
 import random
 import subprocess
@@ -228,9 +228,13 @@ class FdTester(Tester):
         return f"{identifier}{'#' if is_classic else f'##{self.chance.choice(DIGITS)}'}{data.hex().upper()}"
 
 
+def testers_of(chance, setup):
+    return [(FdTester if is_fd else Tester)(chance, setup, place) for place, is_fd in enumerate(setup.fds)]
+
+
 def others(testers):
-    """What is no tester's: frames of CAN FD with the identifiers of classic testers, too, where some have frames of CAN FD."""
-    if not any(isinstance(it, FdTester) for it in testers):
+    """What is no tester's: frames of CAN FD with the identifiers of classic testers, too, where some of the setup talk by it."""
+    if not any(testers[0].setup.fds):
         return OTHERS
     own = [it.request for it in testers if not isinstance(it, FdTester)]
     return OTHERS + [f"{it}##{rest}" for it in own for rest in ("1021003", "0", "Fzz", "", "1" + "5A" * 65)]
@@ -293,20 +297,28 @@ def put(path, lines):
     return path
 
 
-def plays(room, seed, stamps):
-    """Eight testers' logs by `serial` and by `play`."""
+def plays(room, seed, stamps, fd=False):
+    """Eight testers' logs by `serial` and by `play`; some of the testers may talk by CAN FD."""
     chance = random.Random(seed)
-    text = setup_text(chance, 8)
+    text = setup_text(chance, 8, fd)
+    logs = [stamped_lines([it]) if stamps else log_lines(it) for it in testers_of(chance, read_setup(text))]
+    out = played(room, text, logs, stamps, f"{'CAN FD, ' if fd else ''}{'stamps' if stamps else 'ticks'}, {seed}")
+    if fd:
+        count_fd(out)
+    else:
+        count(out)
+
+
+def played(room, text, logs, stamps, name):
+    """Compares what `serial` and `play` make of the testers' logs; returns the text of the latter."""
     setup, config = read_setup(text), put(f"{room}/setup", [text])
-    testers = [Tester(chance, setup, place) for place in range(8)]
-    logs = [stamped_lines([it]) if stamps else log_lines(it) for it in testers]
     files = [put(f"{room}/{place}", lines) for place, lines in enumerate(logs)]
     told_events = [events(setup, place, lines, stamps) for place, lines in enumerate(logs)]
     for job in ("serial", "play"):
         out = run([job, *(["--stamps"] if stamps else []), config, *files])
         why = differs(setup, told_events, out, job == "serial", stamps)
-        told(why is None, f"{job}, {'stamps' if stamps else 'ticks'}, {seed}", why)
-    count(out)
+        told(why is None, f"{job}, {name}", why)
+    return out
 
 
 def compared(room, text, lines, name):
@@ -323,17 +335,14 @@ def captures(room, seed):
     """A capture of four testers by `bus`."""
     chance = random.Random(seed)
     text = setup_text(chance, 4)
-    setup = read_setup(text)
-    compared(room, text, stamped_lines([Tester(chance, setup, place) for place in range(4)]), f"bus, {seed}")
+    compared(room, text, stamped_lines(testers_of(chance, read_setup(text))), f"bus, {seed}")
 
 
 def fd_captures(room, seed):
     """The same of testers of which some talk by CAN FD."""
     chance = random.Random(seed)
     text = setup_text(chance, 4, fd=True)
-    setup = read_setup(text)
-    lines = stamped_lines([(FdTester if is_fd else Tester)(chance, setup, place) for place, is_fd in enumerate(setup.fds)])
-    count_fd(compared(room, text, lines, f"bus, CAN FD, {seed}"))
+    count_fd(compared(room, text, stamped_lines(testers_of(chance, read_setup(text))), f"bus, CAN FD, {seed}"))
 
 
 def long_messages(room, seed):
@@ -348,7 +357,9 @@ def long_messages(room, seed):
     message = b"\x22" + b"\0\1" * reads + b"\xff\xff" * unknown
     frames = cut(read_setup(text), message, size) + [bytes([0x30, chance.choice([0, 0, 200]), chance.choice([0, 0, 1])])] * 4
     lines = [stamped(1_000_000 + 400 * at, f"001##1{frame.hex()}") for at, frame in enumerate([*frames, b""])]
-    compared(room, text, [*lines, *["tick 1000"] * 9], f"bus, long messages, {seed}")
+    lines += ["tick 1000"] * 9
+    compared(room, text, lines, f"bus, long messages, {seed}")
+    played(room, text, [lines], True, f"long messages, {seed}")
 
 
 # ---- what the logs brought about: a comparison of nothing would show nothing
@@ -382,6 +393,8 @@ def main():
         for seed in range(first, first + runs):
             plays(room, seed, False)
             plays(room, seed, True)
+            plays(room, seed, False, fd=True)
+            plays(room, seed, True, fd=True)
             captures(room, seed)
             fd_captures(room, seed)
         for seed in range(first, first + runs // 6 + 1):

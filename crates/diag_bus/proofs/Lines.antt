@@ -7,7 +7,7 @@ use Rattle.std.specs.Prelude.{slice_get}
 use Rattle.diag_can.specs.Reading.{later}
 use Rattle.diag_can.proofs.Reading.{reduce-option}
 use Rattle.diag_can.specs.declared.bus_line.BusLine.{BusLine}
-use Rattle.diag_can.specs.declared.frame.Event.{Event}
+use Rattle.diag_can.specs.Event.{Event}
 use Rattle.diag_tp.specs.declared.sent.Sent.{Sent}
 use Rattle.diag_setup.specs.declared.raw.RawSetup.{RawSetup}
 use Rattle.diag_ecu.specs.State.{State, opening}

@@ -8,8 +8,8 @@ use Rattle.diag_can.specs.Log.{silence, waited}
 use Rattle.diag_can.specs.declared.bus_line.BusLine.{BusLine}
 use Rattle.diag_can.specs.declared.bus_line.BusLine.TheVariants.{Empty, Ticks, Stamped}
 use Rattle.diag_can.specs.declared.fault.LineFault.{LineFault}
-use Rattle.diag_can.specs.declared.frame.Event.{Event}
-use Rattle.diag_can.specs.declared.frame.Event.TheVariants as event
+use Rattle.diag_can.specs.Event.{Event}
+use Rattle.diag_can.specs.Event as event
 use Rattle.diag_can.specs.declared.frame.Frame.{Frame}
 use Rattle.diag_can.specs.declared.log.Timing.TheVariants.{Stamps}
 use Rattle.diag_setup.specs.declared.raw.RawSetup.{RawSetup}

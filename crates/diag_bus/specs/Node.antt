@@ -1,7 +1,7 @@
 -- What the server stands for in the midst of a line, beside what the line has drawn so far.
 use Rattle.std.specs.Prelude.{◌≡◌, ◌≤◌, ◌⊎◌, ℕ, ◌+◌, OnOk, List, ◌++◌, length, map, Some, Result, slice_get}
 use Rattle.std.specs.List.{All}
-use Rattle.diag_can.specs.declared.frame.Event.{Event}
+use Rattle.diag_can.specs.Event.{Event}
 use Rattle.diag_tp.specs.declared.sent.Sent.{Sent}
 use Rattle.diag_setup.specs.declared.raw.RawSetup.{RawSetup}
 use Rattle.diag_desk.specs.declared.entry.Entry.{Entry}

@@ -1,8 +1,8 @@
 -- Whose the frames of an identifier are.
 use Rattle.std.specs.Prelude.{◌≡◌, ◌≤◌, ◌==◌, if◌then◌else◌, ℕ, List, [], ◌∷◌, length, Some, slice_get}
 use Rattle.std.specs.List.{flat_map}
-use Rattle.diag_can.specs.declared.frame.Event.{Event}
-use Rattle.diag_can.specs.declared.frame.Event.TheVariants as event
+use Rattle.diag_can.specs.Event.{Event}
+use Rattle.diag_can.specs.Event as event
 use Rattle.diag_setup.specs.declared.raw.RawSetup.{RawSetup}
 use Rattle.diag_setup.specs.Setup.{ids_of, known_ids}
 use Rattle.diag_pdu.specs.Cut.{counted_from}

@@ -5,7 +5,7 @@ use Rattle.diag_can.specs.Reply.{reply_line}
 use Rattle.diag_can.specs.declared.bus_line.BusLine.{BusLine}
 use Rattle.diag_can.specs.declared.bus_line.BusLine.TheVariants.{Empty, Ticks, Stamped}
 use Rattle.diag_can.specs.declared.fault.LineFault.{LineFault}
-use Rattle.diag_can.specs.declared.frame.Event.{Event}
+use Rattle.diag_can.specs.Event.{Event}
 use Rattle.diag_tp.specs.declared.sent.Sent.{Sent}
 use Rattle.diag_pdu.specs.declared.step.Step.{Step}
 use Rattle.diag_tp.specs.Gives.{steps}

@@ -54,19 +54,36 @@ impl Comparison {
     }
 
     /// Compares a frame of the recording with the one that the server sends at its index.
+    #[inline(always)]
     fn compare(&mut self, frame: Recorded, bytes: KeptBytes)
         requires { self.old.difference ≡ None }
         ensures { Compared self.old self.new frame bytes }
     {
-        if frame.bytes.as_slice() != bytes.as_slice() {
-            self.difference = Some(Difference {
-                line: frame.line,
-                sent: frame.bytes,
-                expected: Some(bytes),
-            });
-            self.ahead.clear();
-            self.behind.clear();
+        if !frame.bytes.is(bytes.as_slice()) {
+            self.settle(frame, bytes);
         }
+    }
+
+    /// This is the first difference. Nothing is kept behind it.
+    #[cold]
+    #[inline(never)]
+    fn settle(&mut self, frame: Recorded, bytes: KeptBytes)
+        ensures difference { self.new.difference ≡ Some (record {
+          line = frame.line;
+          sent = frame.bytes;
+          expected = Some bytes;
+        }) }
+        ensures ahead { self.new.ahead.items ≡ [] }
+        ensures behind { self.new.behind.items ≡ [] }
+        ensures count { self.new.count ≡ self.old.count }
+    {
+        self.difference = Some(Difference {
+            line: frame.line,
+            sent: frame.bytes,
+            expected: Some(bytes),
+        });
+        self.ahead.clear();
+        self.behind.clear();
     }
 
     /// Takes a frame that the server sends.

@@ -33,4 +33,4 @@ pub use request_ids::{Owner, RequestIds};
 pub use response_ids::ResponseIds;
 pub use sink::Sink;
 pub use verdict::{Difference, Recorded, Verdict};
-pub use writing::Drawn;
+pub use writing::{Drawn, gather, sort_batch};

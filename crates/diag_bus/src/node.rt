@@ -2,7 +2,7 @@
 
 ghost use Rattle.std.specs.Prelude.{◌≡◌, ◌≢◌, ◌≤◌, ◌<◌, ◌-◌, ℕ, List, Option, [], ◌∷◌, ◌++◌, Ok, Some, length, false, slice_get, IfSome, IsSome, OnOk};
 ghost use Rattle.std.specs.List.{flat_map};
-ghost use Rattle.diag_can.specs.declared.frame.Event.{Event as AnEvent};
+ghost use Rattle.diag_can.specs.Event.{Event as AnEvent};
 ghost use Rattle.diag_can.specs.Log.{waited};
 ghost use Rattle.diag_pdu.specs.Cut.{counted_from};
 ghost use Rattle.diag_tp.specs.declared.sent.Sent.{Sent as ASent};
@@ -16,7 +16,7 @@ use crate::entering::Entering;
 use crate::line_frames::LineFrames;
 use crate::request_ids::{Owner, RequestIds};
 use crate::sink::Sink;
-use diag_can::{BusLine, CanId, FrameText, LentEvent, TickCount};
+use diag_can::{BusLine, CanId, FrameText, LentBytes, LentEvent, TickCount};
 use diag_setup::{Setup, TesterId};
 use diag_world::Server;
 use std::alloc::AllocError;
@@ -188,10 +188,10 @@ impl Node {
             return self.give_long(setup, owner, frame, sink);
         }
         let bytes = frame.bytes();
-        self.give_bytes(setup, owner, frame.id(), bytes.as_slice(), sink)
+        self.give_bytes(setup, owner, frame.id(), &LentBytes::short(&bytes), sink)
     }
 
-    /// The same of a frame of more than 8 bytes, or of any.
+    /// The same of a frame of more than 8 bytes.
     #[cold]
     #[inline(never)]
     fn give_long<S: Sink>(
@@ -201,6 +201,7 @@ impl Node {
         frame: &FrameText,
         sink: &mut S,
     ) -> Result<(), AllocError>
+        requires long { 8 < length frame.now.bytes }
         requires in_setup { length self.old.server.ports ≡ length setup.now.testers }
         requires lists { length self.old.drawn.lists.items ≡ length setup.now.testers }
         requires owner { IsOwner setup.now frame.now.id (length setup.now.testers) owner }
@@ -209,7 +210,8 @@ impl Node {
             (given setup.now frame.now.id (length setup.now.testers) owner frame.now.bytes) result }
     {
         let bytes = frame.long_bytes();
-        self.give_bytes(setup, owner, frame.id(), bytes.as_slice(), sink)
+        let lent = LentBytes::long(bytes.as_slice());
+        self.give_bytes(setup, owner, frame.id(), &lent, sink)
     }
 
     /// Gives the server a frame of this identifier and these bytes, by whose it is.
@@ -219,10 +221,9 @@ impl Node {
         setup: &Setup,
         owner: Owner,
         id: CanId,
-        bytes: &[u8],
+        bytes: &LentBytes<'_>,
         sink: &mut S,
     ) -> Result<(), AllocError>
-        requires fits { length bytes.now ≤ 64 }
         requires in_setup { length self.old.server.ports ≡ length setup.now.testers }
         requires lists { length self.old.drawn.lists.items ≡ length setup.now.testers }
         requires owner { IsOwner setup.now id (length setup.now.testers) owner }
@@ -232,7 +233,7 @@ impl Node {
     {
         match owner {
             Owner::Nobody => Ok(()),
-            Owner::Tester(who) => self.give(who, &LentEvent::physical(bytes), sink),
+            Owner::Tester(who) => self.give(who, &LentEvent::physical(bytes.copy()), sink),
             Owner::Functional => self.give_functional(setup, id, bytes, sink),
         }
     }
@@ -243,10 +244,9 @@ impl Node {
         &mut self,
         setup: &Setup,
         id: CanId,
-        bytes: &[u8],
+        bytes: &LentBytes<'_>,
         sink: &mut S,
     ) -> Result<(), AllocError>
-        requires fits { length bytes.now ≤ 64 }
         requires in_setup { length self.old.server.ports ≡ length setup.now.testers }
         requires lists { length self.old.drawn.lists.items ≡ length setup.now.testers }
         requires early { HasTime self.old.server 0 }
@@ -268,10 +268,9 @@ impl Node {
         setup: &Setup,
         who: TesterId,
         id: CanId,
-        bytes: &[u8],
+        bytes: &LentBytes<'_>,
         sink: &mut S,
     ) -> Result<(), AllocError>
-        requires fits { length bytes.now ≤ 64 }
         requires known { who ≤ length setup.now.testers }
         requires in_setup { who ≤ length self.old.server.ports }
         requires lists { length self.old.drawn.lists.items ≡ length self.old.server.ports }
@@ -280,7 +279,7 @@ impl Node {
             (functional_to setup.now id bytes.now who) result }
     {
         if id == setup.ids(who).functional {
-            self.give(who, &LentEvent::functional(bytes), sink)
+            self.give(who, &LentEvent::functional(bytes.copy()), sink)
         } else {
             Ok(())
         }

@@ -71,7 +71,10 @@ fn bus_moment(start: Option<Start>, at: u64) -> u64
 }
 
 /// Puts the frames in the order of their times, frames of one time as they stand.
-fn sort_batch(batch: &mut Vec<Drawn>) -> Result<(), AllocError>
+///
+/// # Errors
+/// `AllocError` where memory is refused.
+pub fn sort_batch(batch: &mut Vec<Drawn>) -> Result<(), AllocError>
     ensures is { OnOk result (batch.new.items ≡ in_order time_of batch.old.items) }
     ensures same { OnOk result (IsPermutation batch.old.items batch.new.items) }
 {
@@ -97,8 +100,11 @@ fn add_frames(batch: &mut Vec<Drawn>, who: TesterId, frames: &SentFrames) -> Res
     Ok(())
 }
 
-/// Copies the frames of each tester's list into a batch, one list behind the other.
-fn gather(setup: &Setup, drawn: &[SentFrames], batch: &mut Vec<Drawn>) -> Result<(), AllocError>
+/// Copies the frames of each tester's list to the end of a batch, one list behind the other.
+///
+/// # Errors
+/// `AllocError` where memory is refused.
+pub fn gather(setup: &Setup, drawn: &[SentFrames], batch: &mut Vec<Drawn>) -> Result<(), AllocError>
     requires { length drawn.now ≡ length setup.now.testers }
     ensures { OnOk result (batch.new.items
         ≡ batch.old.items ++ gathered 1 (map (λ f. f.items) drawn.now)) }

@@ -10,8 +10,8 @@ use Rattle.diag_can.specs.declared.fault.LineFault.TheVariants.{BadLine, BadTick
 use Rattle.diag_can.specs.declared.fault.LogFault.TheVariants.{Line}
 use Rattle.diag_can.specs.declared.frame.Ids.{Ids}
 use Rattle.diag_can.specs.declared.frame.KnownId.{KnownId}
-use Rattle.diag_can.specs.declared.frame.Event.{Event}
-use Rattle.diag_can.specs.declared.frame.Event.TheVariants.{Physical, Functional, Ticks}
+use Rattle.diag_can.specs.Event.{Event}
+use Rattle.diag_can.specs.Event.{Physical, Functional, Ticks}
 use Rattle.diag_can.specs.declared.log.Timing.TheVariants.{Lines, Stamps}
 use Rattle.diag_can.specs.Identifier.{extended}
 use Rattle.diag_can.specs.Line.{line_event, line_says}
@@ -19,7 +19,7 @@ use Rattle.diag_can.specs.Log.{events}
 use Rattle.diag_can.specs.Reply.{reply_line}
 
 abbrev ids : Ids
-ids = record { request = 0x7E0; response = 0x7E8; functional = 0x7DF }
+ids = record { request = 0x7E0; response = 0x7E8; functional = 0x7DF; fd = false }
 
 -- a line of a frame, by its text
 abbrev framed : List ℕ → List ℕ
@@ -157,7 +157,7 @@ unfolding hex_on_literals
 known_wide_frame = refl
 
 abbrev wide_ids : Ids
-wide_ids = record { request = extended 0x18DA10F1; response = extended 0x18DAF110; functional = extended 0x18DB33F1 }
+wide_ids = record { request = extended 0x18DA10F1; response = extended 0x18DAF110; functional = extended 0x18DB33F1; fd = false }
 
 wide_request : line_event (framed (codes "18DA10F1#021003")) wide_ids ≡ Ok (Some (Physical (0x02 ∷ 0x10 ∷ 0x03 ∷ [])))
 unfolding hex_on_literals
@@ -241,6 +241,34 @@ wide_fd_request : line_says (by_fd (extended 0x18DA10F1) ∷ []) (codes "(1.5000
 unfolding hex_on_literals
 wide_fd_request = refl
 
+-- ---- lines to a tester that talks by CAN FD
+
+abbrev fd_ids : Ids
+fd_ids = record { request = 0x7E0; response = 0x7E8; functional = 0x7DF; fd = true }
+
+fd_request_line : line_event (codes "(0000000000.000000) bench 7E0##10322F190") fd_ids ≡ Ok (Some (Physical (0x03 ∷ 0x22 ∷ 0xF1 ∷ 0x90 ∷ [])))
+unfolding hex_on_literals
+fd_request_line = refl
+
+fd_line_of_a_classic_tester : line_event (codes "(0000000000.000000) bench 7E0##10322F190") ids ≡ Ok None
+fd_line_of_a_classic_tester = refl
+
+fd_long_request_line : line_event (codes "(0000000000.000000) bench 7E0##1000A22F190F18CCCCCCCCCCC") fd_ids
+    ≡ Ok (Some (Physical (0x00 ∷ 0x0A ∷ 0x22 ∷ 0xF1 ∷ 0x90 ∷ 0xF1 ∷ 0x8C ∷ replicate 5 0xCC)))
+unfolding hex_on_literals
+fd_long_request_line = refl
+
+fd_functional_line : line_event (framed (codes "7DF##1023E80")) fd_ids ≡ Ok (Some (Functional (0x02 ∷ 0x3E ∷ 0x80 ∷ [])))
+unfolding hex_on_literals
+fd_functional_line = refl
+
+fd_response_line : line_event (framed (codes "7E8##1027E00")) fd_ids ≡ Ok None
+unfolding hex_on_literals
+fd_response_line = refl
+
+fd_nine_bytes_line : line_event (framed (codes "7E0##1021003000000000000")) fd_ids ≡ Err BadLine
+fd_nine_bytes_line = refl
+
 -- ---- logs
 
 empty_log : events [] ids Stamps ≡ Ok []
@@ -278,6 +306,19 @@ back_and_on = codes "(5.000000) a 7E0#\ntick 3\n(4.000000) a 7DF#\n(6.000000) a 
 reference_stays : events back_and_on ids Stamps ≡ Ok (Physical [] ∷ Ticks 3 ∷ Functional [] ∷ Ticks 1000 ∷ Physical [] ∷ [])
 unfolding events hex_on_literals
 reference_stays = refl
+
+-- a classic frame and one of CAN FD
+abbrev mixed_frames : List ℕ
+mixed_frames = codes "(5.000000) a 7E0#023E00\n(5.250000) a 7E0##0000A22F190F18CCCCCCCCCCC\n"
+
+fd_frames_with_time : events mixed_frames fd_ids Stamps
+    ≡ Ok (Physical (0x02 ∷ 0x3E ∷ 0x00 ∷ []) ∷ Ticks 250 ∷ Physical (0x00 ∷ 0x0A ∷ 0x22 ∷ 0xF1 ∷ 0x90 ∷ 0xF1 ∷ 0x8C ∷ replicate 5 0xCC) ∷ [])
+unfolding events hex_on_literals
+fd_frames_with_time = refl
+
+fd_frames_passed_over : events mixed_frames ids Stamps ≡ Ok (Physical (0x02 ∷ 0x3E ∷ 0x00 ∷ []) ∷ [])
+unfolding events hex_on_literals
+fd_frames_passed_over = refl
 
 -- 130 seconds
 long_time : events (codes "(0.000000) a 7E0#023E00\n(130.000000) a 7E0#023E00\n") ids Stamps

@@ -7,15 +7,15 @@ use Rattle.std.proofs.lemmas.List.Sums.{fold-append}
 use Rattle.std.proofs.lemmas.Bool.Decides.{nat_tests}
 use Rattle.diag_can.specs.BusLine.{HasNoFeed}
 use Rattle.diag_can.specs.HasRead.{AreRead, HasLines}
-use Rattle.diag_can.specs.Line.{event_for, frame_moment, known_to, line_event, line_says, moment_for}
-use Rattle.diag_can.specs.Log.{event_list, lines_of, without_return, reference, silence, line_gives, events_after, fault_after, first_fault, unless_fault, log_events, events}
+use Rattle.diag_can.specs.Line.{event_for, frame_moment, known_to, line_says, moment_for}
+use Rattle.diag_can.specs.Log.{event_list, lines_of, without_return, reference, line_gives, events_after, fault_after, first_fault, unless_fault, log_events, events}
 use Rattle.diag_can.specs.Growing.{GivesMore, HasEvent}
 use Rattle.diag_can.specs.Reading.{later, fault_with, given_at}
 use Rattle.diag_can.specs.declared.bus_line.BusLine.{BusLine}
 use Rattle.diag_can.specs.declared.fault.LogFault.{LogFault}
 use Rattle.diag_can.specs.declared.fault.LogFault.TheVariants.{TooManyEvents, TooManyLines}
 use Rattle.diag_can.specs.declared.frame.Ids.{Ids}
-use Rattle.diag_can.specs.declared.frame.Event.{Event}
+use Rattle.diag_can.specs.Event.{Event}
 use Rattle.diag_can.specs.declared.log.Reading.{Reading}
 use Rattle.diag_can.specs.declared.log.Timing.{Timing}
 use Rattle.diag_can.specs.declared.log.Timing.TheVariants.{Lines, Stamps}

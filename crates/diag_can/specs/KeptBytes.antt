@@ -5,4 +5,4 @@ use Rattle.diag_can.specs.declared.kept_bytes.Bytes.TheVariants.{Short, Long}
 
 abbrev pub kept_in : Bytes → List ℕ
 kept_in (Short bytes) = bytes
-kept_in (Long bytes) = bytes.items
+kept_in (Long bytes) = bytes.value

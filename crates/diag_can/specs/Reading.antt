@@ -4,7 +4,7 @@ use Rattle.diag_can.specs.Line.{line_event}
 use Rattle.diag_can.specs.Log.{line_gives, line_fault, silence, waited}
 use Rattle.diag_can.specs.declared.fault.LogFault.{LogFault}
 use Rattle.diag_can.specs.declared.frame.Ids.{Ids}
-use Rattle.diag_can.specs.declared.frame.Event.{Event}
+use Rattle.diag_can.specs.Event.{Event}
 use Rattle.diag_can.specs.declared.log.Timing.{Timing}
 
 -- the greater of two moments, as far as there are any

@@ -3,7 +3,7 @@ use Rattle.std.specs.Prelude.{◌≡◌, ℕ, ◌≤◌, List, ◌++◌, length,
 use Rattle.diag_can.specs.Line.{line_event, frame_moment}
 use Rattle.diag_can.specs.Log.{event_list, most_events}
 use Rattle.diag_can.specs.Reading.{later, fault_with, given_at}
-use Rattle.diag_can.specs.declared.frame.Event.{Event}
+use Rattle.diag_can.specs.Event.{Event}
 use Rattle.diag_can.specs.declared.frame.Ids.{Ids}
 use Rattle.diag_can.specs.declared.log.Reading.{Reading}
 use Rattle.diag_can.specs.declared.log.Timing.{Timing}

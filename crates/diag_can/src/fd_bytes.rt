@@ -7,7 +7,7 @@ use std::marker::Model;
 
 /// The data bytes of a frame, at most 64: of a CAN FD frame, or of a classic one. Nearly all frames are classic, for which
 /// `FrameBytes` is enough.
-#[derive(Drop)]
+#[derive(Debug, Drop)]
 pub struct FdBytes {
     bytes: [u8; 64],
     len: usize,

@@ -1,7 +1,8 @@
 //! The data bytes of a frame of either kind, kept.
 
-ghost use Rattle.std.specs.Prelude.{◌≡◌, ◌≤◌, length, IfOk, IsOk};
+ghost use Rattle.std.specs.Prelude.{◌≡◌, ◌≤◌, ◌↔◌, length, IfOk, IsOk, IsTrue};
 
+use crate::fd_bytes::FdBytes;
 use crate::frame::FrameBytes;
 use std::alloc::{AllocError, Global};
 use std::marker::Model;
@@ -15,8 +16,10 @@ pub struct KeptBytes {
 #[derive(Debug, Drop)]
 enum Bytes {
     Short(FrameBytes),
-    Long(Vec<u8>),
+    Long(Box<FdBytes>),
 }
+
+const _: () = prove!(size_of::<KeptBytes>() <= 16);
 
 impl Model for KeptBytes {
     ghost use Rattle.std.specs.Prelude.{ℕ, List, length, ◌≤◌};
@@ -40,7 +43,7 @@ impl KeptBytes {
         }
     }
 
-    /// These bytes, at most 64; up to 8 take no memory.
+    /// These bytes, at most 64; up to 8 take no memory. (Most frames have eight.)
     ///
     /// # Errors
     /// `AllocError` where memory is refused.
@@ -50,22 +53,28 @@ impl KeptBytes {
         ensures value { IfOk result (λ kept. kept ≡ bytes.now) }
         ensures short { length bytes.now ≤ 8 → IsOk result }
     {
+        match bytes.as_array::<8>() {
+            Some(eight) => Ok(KeptBytes::short(FrameBytes::full(*eight))),
+            None => KeptBytes::of_other(alloc, bytes),
+        }
+    }
+
+    /// The same, however many these are.
+    #[inline(never)]
+    fn of_other(alloc: Global, bytes: &[u8]) -> Result<KeptBytes, AllocError>
+        requires { length bytes.now ≤ 64 }
+        ensures value { IfOk result (λ kept. kept ≡ bytes.now) }
+        ensures short { length bytes.now ≤ 8 → IsOk result }
+    {
         if bytes.len() <= 8 {
             return Ok(KeptBytes::short(FrameBytes::from_slice(bytes)));
         }
-        KeptBytes::long(alloc, bytes)
-    }
-
-    /// These bytes, in memory of their own.
-    #[cold]
-    #[inline(never)]
-    fn long(alloc: Global, bytes: &[u8]) -> Result<KeptBytes, AllocError>
-        requires { length bytes.now ≤ 64 }
-        ensures { IfOk result (λ kept. kept ≡ bytes.now) }
-    {
-        Ok(KeptBytes {
-            bytes: Bytes::Long(Vec::from_slice(alloc, bytes)?),
-        })
+        match Box::new(alloc, FdBytes::from_slice(bytes)) {
+            Ok(long) => Ok(KeptBytes {
+                bytes: Bytes::Long(long),
+            }),
+            Err(_) => Err(AllocError),
+        }
     }
 
     /// The same bytes again.
@@ -78,7 +87,7 @@ impl KeptBytes {
     {
         match &self.bytes {
             Bytes::Short(bytes) => Ok(KeptBytes::short(bytes.copy())),
-            Bytes::Long(bytes) => KeptBytes::of(*bytes.allocator(), bytes.as_slice()),
+            Bytes::Long(bytes) => KeptBytes::of_other(*Box::allocator(bytes), bytes.as_slice()),
         }
     }
 
@@ -93,4 +102,31 @@ impl KeptBytes {
             Bytes::Long(bytes) => bytes.as_slice(),
         }
     }
+
+    /// Whether these are the bytes.
+    #[inline(always)]
+    pub fn is(&self, bytes: &[u8]) -> bool
+        ensures { IsTrue result ↔ (self.now ≡ bytes.now) }
+    {
+        is_same(self.as_slice(), bytes)
+    }
+}
+
+/// Whether both are the same bytes: eight, as most frames have, are compared as a word.
+#[inline(always)]
+fn is_same(a: &[u8], b: &[u8]) -> bool
+    ensures { IsTrue result ↔ (a.now ≡ b.now) }
+{
+    match (a.as_array::<8>(), b.as_array::<8>()) {
+        (Some(a), Some(b)) => u64::from_le_bytes(*a) == u64::from_le_bytes(*b),
+        _ => is_same_one_by_one(a, b),
+    }
+}
+
+/// The same, byte by byte.
+#[inline(never)]
+fn is_same_one_by_one(a: &[u8], b: &[u8]) -> bool
+    ensures { IsTrue result ↔ (a.now ≡ b.now) }
+{
+    a == b
 }

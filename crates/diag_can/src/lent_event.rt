@@ -2,25 +2,25 @@
 
 ghost use Rattle.std.specs.Prelude.{◌≡◌, ◌≤◌, length};
 ghost use Rattle.diag_can.specs.LentEvent.{data_of, event_of};
-ghost use Rattle.diag_can.specs.declared.frame.Event.TheVariants as event;
+ghost use Rattle.diag_can.specs.Event as event;
 
-use crate::frame::{Event, TickCount};
+use crate::frame::TickCount;
+use crate::lent_bytes::LentBytes;
 use std::marker::Model;
 
-/// What happens on a tester's link, as it is handed on: the bytes of its frame, up to 64, are lent. (What is kept of a log is an
-/// `Event`.)
+/// What happens on a tester's link: a frame, whose bytes, up to 64, are lent, or unit ticks.
 #[derive(Drop)]
 pub struct LentEvent<'a> {
     kind: EventKind<'a>,
 }
 
 /// What an event is.
-#[derive(Clone, Copy)]
+#[derive(Drop)]
 pub enum EventKind<'a> {
     /// A frame with the tester's request identifier.
-    Physical(&'a [u8]),
+    Physical(LentBytes<'a>),
     /// A frame with the functional identifier.
-    Functional(&'a [u8]),
+    Functional(LentBytes<'a>),
     /// That many unit ticks pass.
     Ticks(TickCount),
 }
@@ -28,7 +28,7 @@ pub enum EventKind<'a> {
 impl<'a> Model for LentEvent<'a> {
     ghost use Rattle.std.specs.Prelude.{◌≤◌, length};
     ghost use Rattle.diag_can.specs.LentEvent.{data_of, event_of};
-    ghost use Rattle.diag_can.specs.declared.frame.Event.{Event};
+    ghost use Rattle.diag_can.specs.Event.{Event};
 
     ghost Value = { Event };
 
@@ -40,9 +40,8 @@ impl<'a> Model for LentEvent<'a> {
 impl<'a> LentEvent<'a> {
     /// A frame of these bytes with the tester's request identifier.
     #[inline(always)]
-    pub fn physical(bytes: &'a [u8]) -> LentEvent<'a>
-        requires { length bytes.now ≤ 64 }
-        ensures { result ≡ event.Physical bytes.now }
+    pub fn physical(bytes: LentBytes<'a>) -> LentEvent<'a>
+        ensures { result ≡ event.Physical bytes.entry }
     {
         LentEvent {
             kind: EventKind::Physical(bytes),
@@ -51,9 +50,8 @@ impl<'a> LentEvent<'a> {
 
     /// A frame of these bytes with the functional identifier.
     #[inline(always)]
-    pub fn functional(bytes: &'a [u8]) -> LentEvent<'a>
-        requires { length bytes.now ≤ 64 }
-        ensures { result ≡ event.Functional bytes.now }
+    pub fn functional(bytes: LentBytes<'a>) -> LentEvent<'a>
+        ensures { result ≡ event.Functional bytes.entry }
     {
         LentEvent {
             kind: EventKind::Functional(bytes),
@@ -77,8 +75,8 @@ impl<'a> LentEvent<'a> {
         ensures fits { length (data_of self.now) ≤ 64 }
     {
         match &self.kind {
-            EventKind::Physical(bytes) => EventKind::Physical(bytes),
-            EventKind::Functional(bytes) => EventKind::Functional(bytes),
+            EventKind::Physical(bytes) => EventKind::Physical(bytes.copy()),
+            EventKind::Functional(bytes) => EventKind::Functional(bytes.copy()),
             EventKind::Ticks(count) => EventKind::Ticks(*count),
         }
     }
@@ -89,19 +87,5 @@ impl<'a> LentEvent<'a> {
         ensures { result ≡ self.now }
     {
         LentEvent { kind: self.kind() }
-    }
-}
-
-impl Event {
-    /// The event, its bytes lent.
-    #[inline(always)]
-    pub fn lent(&self) -> LentEvent<'_>
-        ensures { result ≡ self.now }
-    {
-        match self {
-            Event::Physical(bytes) => LentEvent::physical(bytes.as_slice()),
-            Event::Functional(bytes) => LentEvent::functional(bytes.as_slice()),
-            Event::Ticks(count) => LentEvent::ticks(*count),
-        }
     }
 }

@@ -4,11 +4,11 @@ ghost use Rattle.std.specs.Prelude.{◌≡◌, ◌≢◌, ◌<◌, ◌≤◌, �
 ghost use Rattle.diag_can.specs.Line.{event_for, moment_for};
 ghost use Rattle.diag_can.specs.Log.{event_list, line_gives, without_return, waited, most_events};
 ghost use Rattle.diag_can.specs.Reading.{fault_with, given_at};
-ghost use Rattle.diag_can.specs.Short.{SaysShort};
 
 use crate::bus_line::BusLine;
+use crate::event_log::Log;
 use crate::fault::LogFault;
-use crate::frame::{Event, Ids, TickCount};
+use crate::frame::{Ids, TickCount};
 use crate::moment_text::MomentText;
 use crate::read::{frame_for, line_says};
 
@@ -21,13 +21,10 @@ pub enum Timing {
     Stamps,
 }
 
-/// The most events of a log.
-pub(crate) const MAX_EVENTS: usize = 1_000_000;
-
 /// What was read so far.
 #[derive(Drop)]
 pub(crate) struct Reading {
-    pub(crate) events: Vec<Event>,
+    pub(crate) events: Log,
     /// The greatest moment among the lines that gave a frame.
     pub(crate) reference: Option<u64>,
 }
@@ -43,25 +40,8 @@ pub fn without_return(line: &[u8]) -> &[u8]
     }
 }
 
-/// Adds an event. That there are 1,000,000 is looked at first.
-fn push_event(events: &mut Vec<Event>, event: Event) -> Result<(), LogFault>
-    ensures ok { OnOk result (events.new.items ≡ events.old.items ++ event ∷ []) }
-    ensures room { OnOk result (length events.old.items < most_events) }
-    ensures err { IfErr result (λ fault.
-        ((fault ≡ LogFault.TooManyEvents) × (most_events ≤ length events.old.items))
-        ⊎ ((fault ≡ LogFault.Memory) × (length events.old.items < most_events))) }
-{
-    if events.len() >= MAX_EVENTS {
-        return Err(LogFault::TooManyEvents);
-    }
-    match events.push(event) {
-        Ok(()) => Ok(()),
-        Err(_) => Err(LogFault::Memory),
-    }
-}
-
 /// Adds that many milliseconds of time.
-fn push_time(events: &mut Vec<Event>, ms: u64) -> Result<(), LogFault>
+fn push_time(events: &mut Log, ms: u64) -> Result<(), LogFault>
     requires { length events.old.items ≤ most_events }
     ensures ok { OnOk result (events.new.items ≡ events.old.items ++ waited ms) }
     ensures few { OnOk result (length events.new.items ≤ most_events) }
@@ -74,11 +54,11 @@ fn push_time(events: &mut Vec<Event>, ms: u64) -> Result<(), LogFault>
         return Ok(());
     }
     for _ in 0..ms / u64::from(TickCount::MAX) {
-        push_event(events, Event::Ticks(TickCount::longest()))?;
+        events.push_ticks(TickCount::longest())?;
     }
     match TickCount::new((ms % u64::from(TickCount::MAX)) as u16) {
         None => Ok(()),
-        Some(rest) => push_event(events, Event::Ticks(rest)),
+        Some(rest) => events.push_ticks(rest),
     }
 }
 
@@ -120,8 +100,7 @@ impl Reading {
     /// Takes what a line says.
     #[inline(always)]
     pub(crate) fn take(&mut self, timing: Timing, ids: &Ids, said: &BusLine) -> Result<(), LogFault>
-        requires few { length self.old.events.items ≤ most_events }
-        requires short { SaysShort said.now }
+        requires { length self.old.events.items ≤ most_events }
         ensures took { OnOk result (Grown timing self.old self.new (moment_for ids.now (Ok said.now))
             (event_list (Ok (event_for ids.now said.now)))) }
         ensures err { IfErr result (λ fault.
@@ -133,12 +112,12 @@ impl Reading {
     {
         match said {
             BusLine::Empty => Ok(()),
-            BusLine::Ticks(count) => push_event(&mut self.events, Event::Ticks(*count)),
+            BusLine::Ticks(count) => self.events.push_ticks(*count),
             BusLine::Stamped { moment, frame } => match frame_for(frame, ids) {
                 None => Ok(()),
-                Some(event) => {
+                Some((addressing, frame)) => {
                     self.pass_on(timing, moment)?;
-                    push_event(&mut self.events, event)
+                    self.events.push_frame(addressing, frame)
                 }
             },
         }
@@ -162,7 +141,7 @@ impl Reading {
             → (length self.old.events.items < most_events)
             × (line_gives timing self.old.reference ids.now line.now ≢ []) }
     {
-        match line_says(&ids.known(false), line) {
+        match line_says(&ids.known(), line) {
             Ok(said) => self.take(timing, ids, &said),
             Err(fault) => Err(LogFault::Line(number, fault)),
         }

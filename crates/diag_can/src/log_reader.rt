@@ -10,10 +10,11 @@ ghost use Rattle.diag_can.specs.declared.frame.KnownId.{KnownId};
 ghost use Rattle.diag_can.specs.declared.log.Timing.{Timing};
 
 use crate::bus_line::BusLine;
+use crate::event_log::{Log, MAX_EVENTS};
 use crate::fault::LogFault;
-use crate::frame::{Event, Ids};
+use crate::frame::Ids;
 use crate::front::first_line;
-use crate::log::{MAX_EVENTS, Reading, Timing, without_return};
+use crate::log::{Reading, Timing, without_return};
 use std::alloc::{AllocError, Global};
 
 /// The most lines of a log.
@@ -38,11 +39,11 @@ impl LogReader {
     pub fn new(alloc: Global) -> LogReader
         ensures { (ids : Ids) (timing : Timing) → HasRead ids timing result [] }
     {
-        LogReader::with_events(Vec::new(alloc))
+        LogReader::with_log(Log::new(alloc))
     }
 
-    /// The same, which reads into a list with no events.
-    fn with_events(events: Vec<Event>) -> LogReader
+    /// The same, which reads into a log with no events.
+    fn with_log(events: Log) -> LogReader
         requires { events.items ≡ [] }
         ensures { (ids : Ids) (timing : Timing) → HasRead ids timing result [] }
     {
@@ -60,7 +61,7 @@ impl LogReader {
     /// them. Behind a fault nothing is looked at, and all is taken.
     ///
     /// # Errors
-    /// `AllocError` where memory is refused, which is asked for an event alone: the reader can take no more then.
+    /// `AllocError` where memory is refused, which is asked for an event and its bytes alone: the reader can take no more then.
     pub fn take_lines<'a>(
         &mut self,
         ids: &Ids,
@@ -170,7 +171,7 @@ impl LogReader {
     ///
     /// # Errors
     /// As `read_log`.
-    pub fn finish(mut self, ids: &Ids, timing: Timing, begun: &[u8]) -> Result<Vec<Event>, LogFault>
+    pub fn finish(mut self, ids: &Ids, timing: Timing, begun: &[u8]) -> Result<Log, LogFault>
         requires taken { (seen : List ℕ) × HasRead ids.now timing self seen }
         requires line { HasNoFeed begun.now }
         ensures ok { IfOk result (λ log. (seen : List ℕ) → HasRead ids.now timing self seen
@@ -194,27 +195,27 @@ impl LogReader {
     }
 }
 
-/// The events of a log (candump's log format): split at LF, one CR at the end of a line dropped, each line read as
-/// `read_line` does, in one pass. With `Timing::Stamps` a line that gives a frame gives before it the milliseconds by
-/// which its stamp is later than the latest stamp of a frame before, as Ticks of 60000 and last the rest.
+/// The events of a log (candump's log format) to the tester of these identifiers: split at LF, one CR at the end of a line
+/// dropped, in one pass. A line gives time for `tick` and `tick N`; a frame for `(SECONDS.FRACTION) NAME ID#BYTES`, and for
+/// `(SECONDS.FRACTION) NAME ID##FLAGSBYTES` of a tester that talks by CAN FD, where the identifier is the tester's request
+/// identifier or the functional one; nothing for every other identifier, for remote frames, for CAN FD frames that the tester
+/// doesn't read, and where it is empty. A line with eight digits of an identifier is passed over, whatever follows, unless the
+/// tester has it. With `Timing::Stamps` a line that gives a frame gives before it the milliseconds by which its stamp is later
+/// than the latest stamp of a frame before, as Ticks of 60000 and last the rest; else stamps are checked for form alone.
 ///
 /// # Errors
 /// The first of these in the order of the lines: `Line`, the line's number from 1 and its fault; `TooManyEvents`, at a
 /// line with whose events there are more than 1,000,000; `TooManyLines`, where a line follows the 1,000,000th. `Memory`
-/// where memory is refused: it is asked for an event alone, once its line is found well.
-pub fn read_log(
-    alloc: Global,
-    text: &[u8],
-    ids: &Ids,
-    timing: Timing,
-) -> Result<Vec<Event>, LogFault>
+/// where memory is refused: it is asked for an event and its bytes alone, once its line is found well and there is room for
+/// one event more.
+pub fn read_log(alloc: Global, text: &[u8], ids: &Ids, timing: Timing) -> Result<Log, LogFault>
     ensures ok { IfOk result (λ log. events text.now ids.now timing ≡ Ok log.items) }
     ensures err { IfErr result (λ fault.
         fault ≢ LogFault.Memory → events text.now ids.now timing ≡ Err fault) }
     ensures memory { result ≡ Err LogFault.Memory → HasEvent timing ids.now text.now }
     ensures few { IfOk result (λ log. length log.items ≤ most_events) }
 {
-    let mut reader = LogReader::with_events(with_room(alloc, text));
+    let mut reader = LogReader::with_log(with_room(alloc, text));
     match reader.take_lines(ids, timing, text) {
         Ok(begun) => reader.finish(ids, timing, begun),
         Err(_) => Err(LogFault::Memory),
@@ -222,13 +223,9 @@ pub fn read_log(
 }
 
 /// No events, and room for those of a text of usual lines: where there are more, or there isn't so much room at once, the
-/// list grows.
-fn with_room(alloc: Global, text: &[u8]) -> Vec<Event>
+/// log grows.
+fn with_room(alloc: Global, text: &[u8]) -> Log
     ensures { result.items ≡ [] }
 {
-    let room = (text.len() / SHORT_LINE).min(MAX_EVENTS);
-    match Vec::with_capacity(alloc, room) {
-        Ok(events) => events,
-        Err(_) => Vec::new(alloc),
-    }
+    Log::with_room(alloc, (text.len() / SHORT_LINE).min(MAX_EVENTS))
 }

@@ -1,15 +1,16 @@
 //! What a line says, and what it is to a tester.
 
-ghost use Rattle.std.specs.Prelude.{◌≡◌, IfSome, option_map};
+ghost use Rattle.std.specs.Prelude.{◌≡◌, option_map};
 ghost use Rattle.std.specs.List.{list_all};
 ghost use Rattle.diag_can.specs.Stamp.{is_digit};
-ghost use Rattle.diag_can.specs.Line.{is_decimal, ticks_of, tick_count, stamped, stamped_frame, text_frame, line_says, frame_for, event_for, line_event};
-ghost use Rattle.diag_can.specs.Short.{IsShort, SaysShort};
+ghost use Rattle.diag_can.specs.Line.{is_decimal, ticks_of, tick_count, stamped, stamped_frame, text_frame, line_says, frame_for, addressed};
 
 use crate::bus_line::BusLine;
 use crate::fault::LineFault;
-use crate::frame::{Event, Ids, KnownId, TickCount};
+use crate::frame::{Ids, KnownId, TickCount};
 use crate::frame_text::FrameText;
+use crate::lent_bytes::LentBytes;
+use crate::lent_event::LentEvent;
 use crate::line::text_frame;
 use crate::moment_text::MomentText;
 use crate::stamp::{behind_name, decimal_value, is_digit, stamp_of};
@@ -108,48 +109,43 @@ fn other_says<'a>(known: &[KnownId], line: &'a [u8]) -> Result<BusLine<'a>, Line
     }
 }
 
-/// What a frame of up to eight bytes is to the tester of these identifiers.
+/// Which identifier of a tester's link a frame has that a tester sends.
+#[derive(Clone, Copy, Debug, PartialEq, Eq)]
+pub enum Addressing {
+    /// The request identifier.
+    Physical,
+    /// The functional identifier.
+    Functional,
+}
+
+impl Addressing {
+    /// The event of a frame with that identifier and these bytes.
+    pub fn event(self, bytes: LentBytes<'_>) -> LentEvent<'_>
+        ensures { result ≡ addressed self bytes.entry }
+    {
+        match self {
+            Addressing::Physical => LentEvent::physical(bytes),
+            Addressing::Functional => LentEvent::functional(bytes),
+        }
+    }
+}
+
+/// The frame, where it is one to the tester of these identifiers, and which of them it has. Its bytes aren't decoded yet.
 #[inline(always)]
-pub fn frame_for(frame: &Option<FrameText>, ids: &Ids) -> Option<Event>
-    requires { IfSome frame.now IsShort }
-    ensures { result ≡ frame_for ids.now frame.now }
+pub fn frame_for<'f, 'a>(
+    frame: &'f Option<FrameText<'a>>,
+    ids: &Ids,
+) -> Option<(Addressing, &'f FrameText<'a>)>
+    ensures { option_map (λ r. addressed r.0 r.1.now.bytes) result ≡ frame_for ids.now frame.now }
 {
     let Some(frame) = frame else {
         return None;
     };
     if frame.id() == ids.request {
-        Some(Event::Physical(frame.bytes()))
+        Some((Addressing::Physical, frame))
     } else if frame.id() == ids.functional {
-        Some(Event::Functional(frame.bytes()))
+        Some((Addressing::Functional, frame))
     } else {
         None
     }
-}
-
-/// What a line is to the tester of these identifiers, by what it says.
-fn event_for(said: &BusLine, ids: &Ids) -> Option<Event>
-    requires { SaysShort said.now }
-    ensures { result ≡ event_for ids.now said.now }
-{
-    match said {
-        BusLine::Empty => None,
-        BusLine::Ticks(count) => Some(Event::Ticks(*count)),
-        BusLine::Stamped { moment: _, frame } => frame_for(frame, ids),
-    }
-}
-
-/// What a whole line of a log, without its LF, is to the tester of these identifiers (candump's log format): time for
-/// `tick` and `tick N`; a frame for `(SECONDS.FRACTION) NAME ID#BYTES` where the identifier is the tester's request
-/// identifier or the functional one; nothing for every other identifier, for remote and CAN FD frames, and for an empty
-/// line. A line with eight digits of an identifier is passed over, whatever follows, unless the tester has it. Stamps are
-/// checked for form alone. No memory is taken.
-///
-/// # Errors
-/// `BadTick` for another line that begins with `tick`, `TooManyBytes` for a frame with more than 16 hex digits,
-/// `BadLine` for any other line.
-pub fn read_line(line: &[u8], ids: &Ids) -> Result<Option<Event>, LineFault>
-    ensures { result ≡ line_event line.now ids.now }
-{
-    let said = line_says(&ids.known(false), line)?;
-    Ok(event_for(&said, ids))
 }

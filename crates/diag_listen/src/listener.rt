@@ -1,7 +1,7 @@
 //! The unit's side to a tester, as it is heard.
 
 ghost use Rattle.std.specs.Prelude.{◌≡◌, ◌≤◌, ◌<◌, [], ◌∷◌, ◌++◌, length, is_some, None, Some, IsSome, OnOk};
-ghost use Rattle.diag_can.specs.declared.frame.Event.{Event as AnEvent};
+ghost use Rattle.diag_can.specs.Event.{Event as AnEvent};
 ghost use Rattle.diag_can.specs.Log.{waited};
 ghost use Rattle.diag_pdu.specs.Kind.{Consecutive, IsRead, says};
 ghost use Rattle.diag_pdu.specs.Cut.{head_size};

@@ -1,7 +1,7 @@
 -- Worked examples of replies that go later, computed.
 use Rattle.std.proofs.Common.{◌≡◌, ℕ, false, List, [], ◌∷◌, Some, refl}
-use Rattle.diag_can.specs.declared.frame.Event.{Event}
-use Rattle.diag_can.specs.declared.frame.Event.TheVariants.{Physical, Ticks}
+use Rattle.diag_can.specs.Event.{Event}
+use Rattle.diag_can.specs.Event.{Physical, Ticks}
 use Rattle.diag_pdu.specs.declared.length.DataLength.TheVariants.{Dl8}
 use Rattle.diag_pdu.specs.declared.setup.LinkSetup.{LinkSetup}
 use Rattle.diag_pdu.specs.Kind.{kind}
@@ -16,7 +16,7 @@ use Rattle.diag_port.specs.Standing.{timed_asks, timed_ticks}
 
 abbrev settings : LinkSetup
 settings = record {
-  ids = record { request = 0x7E0; response = 0x7E8; functional = 0x7DF };
+  ids = record { request = 0x7E0; response = 0x7E8; functional = 0x7DF; fd = false };
   block_size = 0;
   st_min = 0;
   max_request = 4095;

@@ -4,7 +4,7 @@ use Rattle.std.proofs.lemmas.List.{length-map, append-nil, length-append}
 use Rattle.std.proofs.lemmas.Grind.{flat_map-append}
 use Rattle.std.specs.List.{flat_map, zip}
 use Rattle.std.specs.Option.{option_to_list}
-use Rattle.diag_can.specs.declared.frame.Event.{Event}
+use Rattle.diag_can.specs.Event.{Event}
 use Rattle.diag_pdu.specs.declared.step.Step.{Step}
 use Rattle.diag_pdu.specs.declared.setup.LinkSetup.{LinkSetup}
 use Rattle.diag_tp.specs.Gives.{gives, steps, steps_after}

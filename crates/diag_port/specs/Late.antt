@@ -1,6 +1,6 @@
 -- Replies that go later than at once: which messages a reply is, from when on each may go, and the moment at which it is placed.
 use Rattle.std.specs.Prelude.{◌≤◌, ◌<◌, ℕ, zero, suc, ◌+◌, ◌*◌, max, nat_le, nat_lt, if◌then◌else◌, List, [], ◌∷◌, ◌++◌, length, map, Option, Some, None}
-use Rattle.diag_can.specs.declared.frame.Event.{Event}
+use Rattle.diag_can.specs.Event.{Event}
 use Rattle.diag_tp.specs.Moments.{now}
 use Rattle.diag_tp.specs.Wire.{Placed}
 use Rattle.diag_setup.specs.declared.raw.RawSetup.{RawSetup}

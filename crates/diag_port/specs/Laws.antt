@@ -1,6 +1,6 @@
 -- Where no reply goes later than at once, all is as it was without delays.
 use Rattle.std.specs.Prelude.{◌≡◌, List, [], ◌∷◌}
-use Rattle.diag_can.specs.declared.frame.Event.{Event}
+use Rattle.diag_can.specs.Event.{Event}
 use Rattle.diag_pdu.specs.declared.setup.LinkSetup.{LinkSetup}
 use Rattle.diag_tp.specs.Placing as plain
 use Rattle.diag_desk.specs.Entries.{replies}

@@ -1,7 +1,7 @@
 -- What a port stands for of a tester's run: its events, and what was answered to the steps that they give.
 use Rattle.std.specs.Prelude.{◌≡◌, ◌≤◌, ◌+◌, ℕ, List, [], ◌∷◌, ◌++◌, IsSome, IfSome, IsTrue, Option, Some, None}
 use Rattle.std.specs.Option.{option_map, option_to_list}
-use Rattle.diag_can.specs.declared.frame.Event.{Event}
+use Rattle.diag_can.specs.Event.{Event}
 use Rattle.diag_pdu.specs.declared.setup.LinkSetup.{LinkSetup}
 use Rattle.diag_pdu.specs.declared.step.Request.{Request}
 use Rattle.diag_pdu.specs.declared.step.Step.{Step}

@@ -16,7 +16,7 @@ ghost use Rattle.std.specs.Prelude.{
   None,
   min,
 };
-ghost use Rattle.diag_can.specs.declared.frame.Event.{Event as AnEvent};
+ghost use Rattle.diag_can.specs.Event.{Event as AnEvent};
 ghost use Rattle.diag_pdu.specs.declared.setup.LinkSetup.{LinkSetup as ALinkSetup};
 ghost use Rattle.diag_pdu.specs.Length.{in_bytes};
 ghost use Rattle.diag_tp.specs.declared.sent.Sent.{Sent as ASent};

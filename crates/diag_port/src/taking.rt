@@ -14,7 +14,7 @@ ghost use Rattle.std.specs.Prelude.{
   OnErr,
   OnOk,
 };
-ghost use Rattle.diag_can.specs.declared.frame.Event.{Event as AnEvent};
+ghost use Rattle.diag_can.specs.Event.{Event as AnEvent};
 ghost use Rattle.diag_pdu.specs.declared.step.Step.{Step as AStep};
 ghost use Rattle.diag_tp.specs.Link.{is_frame, pending};
 ghost use Rattle.diag_tp.specs.Taken.{asked_in};

@@ -1,12 +1,12 @@
 -- The logs that were taken, and what they say as one after the other is finished.
 use Rattle.std.proofs.Common.{◌≡◌, ℕ, ◌+◌, length, map, drop, slice_index_or, List, [], ◌∷◌, ◌++◌, Result, Ok, Err, refl, sym, ap, subst, ◌∙◌, arith, append_assoc, append-nil, length-append}
 use Rattle.std.proofs.lemmas.List.{map-append}
-use Rattle.std.specs.Global.{Vec}
 use Rattle.diag_can.specs.BusLine.{HasNoFeed}
 use Rattle.diag_can.specs.HasRead.{HasRead}
 use Rattle.diag_can.specs.Log.{events}
 use Rattle.diag_can.specs.declared.fault.LogFault.{LogFault}
-use Rattle.diag_can.specs.declared.frame.Event.{Event}
+use Rattle.diag_can.specs.Event.{Event}
+use Rattle.diag_can.specs.EventLog.{Events}
 use Rattle.diag_can.specs.declared.log.Timing.{Timing}
 use Rattle.diag_setup.specs.declared.raw.RawSetup.{RawSetup}
 use Rattle.diag_setup.specs.Setup.{ids_of}
@@ -68,14 +68,14 @@ behind_one done n log (Ok logs) = ap (λ l. Ok l) (append_assoc done (log ∷ []
 behind_one done n log (Err first) = refl
 
 -- these logs are what the first texts give, and the takers have the others
-pub record Finished (setup : RawSetup) (timing : Timing) (texts : List (List ℕ)) (done : List (Vec Event)) (takers : List (LineTaker LogLines)) : Type 0 where
+pub record Finished (setup : RawSetup) (timing : Timing) (texts : List (List ℕ)) (done : List Events) (takers : List (LineTaker LogLines)) : Type 0 where
   pub rest : List (List ℕ)
   pub logs : AreLogs (length done + 1) setup timing takers
   pub taken : AreTaken TookLog takers rest
   pub so_far : behind (map (λ log. log.items) done) (logs_from (length done + 1) setup timing rest) ≡ logs_of setup timing texts
 
 module _ (setup : RawSetup) (timing : Timing) (texts : List (List ℕ)) where
-  pub all_finished : (done : List (Vec Event)) (takers : List (LineTaker LogLines)) → takers ≡ [] → Finished setup timing texts done takers
+  pub all_finished : (done : List Events) (takers : List (LineTaker LogLines)) → takers ≡ [] → Finished setup timing texts done takers
       → logs_of setup timing texts ≡ Ok (map (λ log. log.items) done)
   all_finished done takers none f = ended f.rest (subst (λ l. AreTaken TookLog l f.rest) none f.taken) f.so_far
     where
@@ -85,7 +85,7 @@ module _ (setup : RawSetup) (timing : Timing) (texts : List (List ℕ)) where
       ended [] taken is = sym is ∙ ap (λ l. Ok l) (append-nil (map (λ log. log.items) done))
       ended (text ∷ rest) taken is = absurd taken
 
-  module _ (done : List (Vec Event)) (taker : LineTaker LogLines) (takers : List (LineTaker LogLines)) where
+  module _ (done : List Events) (taker : LineTaker LogLines) (takers : List (LineTaker LogLines)) where
     -- the log that is next, in front of the others
     abbrev says : List ℕ → Result (List Event) LogFault
     says text = events text taker.lines.ids taker.lines.timing
@@ -104,7 +104,7 @@ module _ (setup : RawSetup) (timing : Timing) (texts : List (List ℕ)) where
       all_taken : AreTaken TookLog (taker ∷ takers) f.rest
       all_taken = subst (λ l. AreTaken TookLog l f.rest) is f.taken
 
-      pub one_finished : (log : Vec Event) → ((text : List ℕ) → TookLog taker text → says text ≡ Ok log.items)
+      pub one_finished : (log : Events) → ((text : List ℕ) → TookLog taker text → says text ≡ Ok log.items)
           → Finished setup timing texts (done ++ log ∷ []) takers
       one_finished log well = more f.rest all_taken f.so_far
         where

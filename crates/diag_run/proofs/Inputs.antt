@@ -1,7 +1,7 @@
 -- What a run has read, step by step.
-use Rattle.std.proofs.Common.{◌≡◌, ◌≢◌, ◌⊎◌, ℕ, ◌==◌, ◌&&◌, ◌≤◌, false, length, List, Option, Result, Ok, Err, inl, inr, refl, ap, ◌∙◌, arith}
-use Rattle.std.proofs.lemmas.Bool.Decides.{nat_tests}
+use Rattle.std.proofs.Common.{◌≡◌, ◌≢◌, ◌⊎◌, ℕ, ◌==◌, ◌≤◌, true, false, length, List, Option, Result, Ok, Err, inl, inr, refl, ap, ◌∙◌, arith}
 use Rattle.std.specs.Io.KnownBytes.{Keeps}
+use Rattle.std.proofs.lemmas.Bool.Decides.{nat_tests}
 use Rattle.diag_config.specs.declared.fault.ConfigFault.{ConfigFault}
 use Rattle.diag_config.specs.declared.fault.ConfigFault.TheVariants as config
 use Rattle.diag_setup.specs.declared.raw.RawSetup.{RawSetup}
@@ -10,26 +10,24 @@ use Rattle.diag_text.specs.declared.fault.RunFault.{RunFault}
 use Rattle.diag_text.specs.declared.fault.RunFault.TheVariants.{Files, Config, ConfigLong, Log, JournalLine, FileLong, Memory, JournalFull, RecordsDisagree, Read, Write, Differs, Capture, Otherwise}
 use Rattle.diag_run.specs.declared.file_run.Job.{Job}
 use Rattle.diag_run.specs.declared.file_run.Job.TheVariants.{Serial, Play, Replay}
-use Rattle.diag_setup.specs.Setup.{has_fd}
 use Rattle.diag_run.specs.Files.{Refusal, wrong_count, Fails, ConfigFails, config_of, files_from}
-use Rattle.diag_run.specs.Run.{Inputs, IsMisfit, fits, reads_logs, inputs, ReadToEnd, ReadingStops, RunStops, AnswersFault, IsFaultOf, WhereKnown, WroteFront, wanted, limit, read_of, GivesRun}
-
--- a fault of the setup stays, whatever is read behind it
-ConfigFails-on : {A B : Type 0} (said : Result A Refusal) (more : A → Result B Refusal) (fault : ConfigFault) → ConfigFails fault said → ConfigFails fault (said >>= more)
-ConfigFails-on said more config.Syntax h = rw h refl
-ConfigFails-on said more (config.Missing key) h = rw h refl
-ConfigFails-on said more (config.BadValue key) h = rw h refl
-ConfigFails-on said more (config.Setup fault) h = rw h refl
-ConfigFails-on said more config.Memory h = absurd h
+use Rattle.diag_run.specs.Run.{Inputs, inputs, ReadToEnd, ReadingStops, RunStops, AnswersFault, IsFaultOf, WhereKnown, WroteFront, wanted, limit, read_of, GivesRun}
 
 -- a fault stays where what is read is only put into another shape
 module _ {A B : Type 0} (f : A → B) where
+  ConfigFails-map : (fault : ConfigFault) (said : Result A Refusal) → ConfigFails fault said → ConfigFails fault (said >>= λ x. Ok (f x))
+  ConfigFails-map config.Syntax said h = rw h refl
+  ConfigFails-map (config.Missing key) said h = rw h refl
+  ConfigFails-map (config.BadValue key) said h = rw h refl
+  ConfigFails-map (config.Setup fault) said h = rw h refl
+  ConfigFails-map config.Memory said h = absurd h
+
   pub Fails-map : (fault : RunFault) (said : Result A Refusal) → Fails fault said → Fails fault (said >>= λ x. Ok (f x))
   Fails-map Memory said h = tt
   Fails-map (Read n) (Ok x) h = tt
   Fails-map (Read n) (Err e) h = h
   Fails-map (Files w g) said h = rw h refl
-  Fails-map (Config fault) said h = ConfigFails-on said (λ x. Ok (f x)) fault h
+  Fails-map (Config fault) said h = ConfigFails-map fault said h
   Fails-map ConfigLong said h = rw h refl
   Fails-map (Log who fault) said h = rw h refl
   Fails-map (FileLong n) said h = rw h refl
@@ -41,43 +39,25 @@ module _ {A B : Type 0} (f : A → B) where
   Fails-map (Capture n fault) said h = absurd h
   Fails-map (Otherwise told) said h = absurd h
 
--- another number of files than the job wants, of a setup that it takes
-pub miscounted : (job : Job) (setup : RawSetup) (count given : ℕ) → (reads_logs job && has_fd setup) ≡ false → count ≡ wanted job setup → count ≢ given
-    → fits job setup given ≡ Err (wrong_count count given)
-unfolding fits
-miscounted job setup count given classic is differs =
-    let test : (wanted job setup == given) ≡ false = grind (arith, nat_tests, is, differs) in
-    rw (classic, test, is) refl
-
 module _ (job : Job) (bytes : List ℕ) (known : List (List ℕ)) (setup : RawSetup) (config : config_of bytes ≡ Ok setup) where
-  -- the job doesn't take the setup, or so many files
-  pub misfit : (fault : RunFault) → IsMisfit job setup (length known) fault → Fails fault (read_of job bytes known)
+  pub miscounted : (wanted job setup ≡ length known → ⊥) → read_of job bytes known ≡ Err (wrong_count (wanted job setup) (length known))
   unfolding read_of
-  misfit (Config fault) h = rw config (ConfigFails-on (fits job setup (length known)) _ fault h)
-  misfit (Files w g) h = rw (config, h) refl
-  misfit ConfigLong h = absurd h
-  misfit (Log who fault) h = absurd h
-  misfit (JournalLine n) h = absurd h
-  misfit (FileLong n) h = absurd h
-  misfit Memory h = absurd h
-  misfit JournalFull h = absurd h
-  misfit (RecordsDisagree who) h = absurd h
-  misfit (Read n) h = absurd h
-  misfit Write h = absurd h
-  misfit (Differs n) h = absurd h
-  misfit (Capture n fault) h = absurd h
-  misfit (Otherwise told) h = absurd h
+  miscounted differs =
+      let test : (wanted job setup == length known) ≡ false = grind (arith, nat_tests, differs) in
+      rw (config, test) refl
 
-  well_fit : fits job setup (length known) ≡ Ok tt → read_of job bytes known ≡ (files_from (limit job) 1 known >>= λ texts. Ok (inputs setup texts))
+  well_counted : wanted job setup ≡ length known → read_of job bytes known ≡ (files_from (limit job) 1 known >>= λ texts. Ok (inputs setup texts))
   unfolding read_of
-  well_fit same = rw (config, same) refl
+  well_counted same =
+      let test : (wanted job setup == length known) ≡ true = grind (arith, nat_tests, same) in
+      rw (config, test) refl
 
-  pub read_whole : fits job setup (length known) ≡ Ok tt → (texts : List (List ℕ)) → files_from (limit job) 1 known ≡ Ok texts
+  pub read_whole : wanted job setup ≡ length known → (texts : List (List ℕ)) → files_from (limit job) 1 known ≡ Ok texts
       → read_of job bytes known ≡ Ok (inputs setup texts)
-  read_whole same texts h = well_fit same ∙ ap (λ said. said >>= λ texts. Ok (inputs setup texts)) h
+  read_whole same texts h = well_counted same ∙ ap (λ said. said >>= λ texts. Ok (inputs setup texts)) h
 
-  pub read_fails : fits job setup (length known) ≡ Ok tt → (fault : RunFault) → Fails fault (files_from (limit job) 1 known) → Fails fault (read_of job bytes known)
-  read_fails same fault h = rw (well_fit same) (Fails-map (inputs setup) fault (files_from (limit job) 1 known) h)
+  pub read_fails : wanted job setup ≡ length known → (fault : RunFault) → Fails fault (files_from (limit job) 1 known) → Fails fault (read_of job bytes known)
+  read_fails same fault h = rw (well_counted same) (Fails-map (inputs setup) fault (files_from (limit job) 1 known) h)
 
 -- ---- of any readers, by the bytes that were read
 

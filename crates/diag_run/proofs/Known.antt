@@ -14,7 +14,7 @@ use Rattle.diag_text.specs.Taking.{LinesTaken}
 use Rattle.diag_text.specs.declared.taking.LineTaker.{LineTaker}
 use Rattle.diag_run.specs.declared.answer.Replaying.{Replaying}
 use Rattle.diag_run.specs.Files.{Refusal, AreKnown, AreTaken, EndsAt, Fails, FilesEnd, FilesRead, ReadEach, SaysSetup, config_of, file_long, files_from}
-use Rattle.diag_run.specs.Run.{Inputs, FilesGive, GivesRun, GivesText, IsReplayedTo, ReadToEnd, NamesAFile, ReadsConfigFirst, TextStops, WhereKnown, answered, inputs, fits, joined, limit, read_of, wanted}
+use Rattle.diag_run.specs.Run.{Inputs, FilesGive, GivesRun, GivesText, IsReplayedTo, ReadToEnd, NamesAFile, ReadsConfigFirst, TextStops, WhereKnown, answered, inputs, joined, limit, read_of, wanted}
 use Rattle.diag_run.proofs.Inputs.{read_fails, read_whole}
 use Rattle.diag_run.proofs.Order.{AllLater-files, AllLater-front}
 use Rattle.diag_run.proofs.Reading.{AreKnown-length, ends_within, head_known, too_long, whole_known, with_front}
@@ -243,20 +243,16 @@ pub record IsMade {R : Type 0} (remaining : R → Option (List ℕ)) (job : Job)
   pub stops : IfErr made (TextStops remaining job config config' files files')
 
 module _ {R : Type 0} (remaining : R → Option (List ℕ)) (job : Job) (config config' : R) (files files' : List R) (setup : RawSetup)
-    (says : SaysSetup (remaining config) (remaining config') setup) (fit : fits job setup (length files) ≡ Ok tt) where
+    (says : SaysSetup (remaining config) (remaining config') setup) (count : wanted job setup ≡ length files) where
   known_setup : (bytes : List ℕ) → remaining config ≡ Some bytes → config_of bytes ≡ Ok setup
   known_setup bytes is = subst (λ b. config_of b ≡ Ok setup) (whole_known (remaining config) (remaining config') bytes says.bytes is says.read) says.says
-
-  -- as many as these are taken, too
-  also : (n : ℕ) → length files ≡ n → fits job setup n ≡ Ok tt
-  also n same = subst (λ n. fits job setup n ≡ Ok tt) same fit
 
   -- what is known is what was read
   module _ (P : List (List ℕ) → Type 0) (read : FilesRead remaining (limit job) files files' P) where
     said_is : (bytes : List ℕ) (known : List (List ℕ)) → remaining config ≡ Some bytes → AreKnown remaining files known
         → read_of job bytes known ≡ Ok (inputs setup read.texts)
     said_is bytes known is are =
-        read_whole job bytes known setup (known_setup bytes is) (also (length known) (AreKnown-length remaining files known are)) read.texts
+        read_whole job bytes known setup (known_setup bytes is) (count ∙ AreKnown-length remaining files known are) read.texts
         (subst (λ texts. files_from (limit job) 1 texts ≡ Ok read.texts) (known_texts remaining files files' read.texts known read.each are) read.within)
 
     read_to_end : (Q : Result Inputs Refusal → Type 0) → Q (Ok (inputs setup read.texts)) → ReadToEnd remaining job config config' files files' Q
@@ -265,7 +261,7 @@ module _ {R : Type 0} (remaining : R → Option (List ℕ)) (job : Job) (config 
       read = says.read;
       texts = read.texts;
       each = read.each;
-      says = subst Q (sym (read_whole job says.bytes read.texts setup says.says (also (length read.texts) (each_length remaining files files' read.texts read.each)) read.texts read.within))
+      says = subst Q (sym (read_whole job says.bytes read.texts setup says.says (count ∙ each_length remaining files files' read.texts read.each) read.texts read.within))
           holds;
     }
 
@@ -284,12 +280,12 @@ module _ {R : Type 0} (remaining : R → Option (List ℕ)) (job : Job) (config 
   }
   files_made (Err fault) (inl ends) = record {
     answer = λ bytes known is are.
-        inl (read_fails job bytes known setup (known_setup bytes is) (also (length known) (AreKnown-length remaining files known are)) fault
+        inl (read_fails job bytes known setup (known_setup bytes is) (count ∙ AreKnown-length remaining files known are) fault
         (known_ends remaining (limit job) files files' fault known are ends));
     device = λ n is. ends_device fault n (same_fault fault (Read n) is) ends;
     config_first = λ n is some. says.read.1;
     reads = tt;
-    stops = inl (inr (record { setup = setup; says = says; ends = inr (fit, ends) }));
+    stops = inl (inr (record { setup = setup; says = says; ends = inr (count, ends) }));
   }
   files_made (Err fault) (inr read) = record {
     answer = λ bytes known is are. subst (λ said. GivesRun job said (Err fault)) (sym (said_is _ read.1 bytes known is are)) (inr read.1.holds);

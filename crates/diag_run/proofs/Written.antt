@@ -7,7 +7,7 @@ use Rattle.std.specs.Prelude.{◌⊎◌, if◌then◌else◌, slice_get, slice_s
 use Rattle.std.specs.Global.{Vec}
 use Rattle.std.specs.List.{concat}
 use Rattle.std.specs.Option.{option_to_list}
-use Rattle.diag_can.specs.declared.frame.Event.{Event}
+use Rattle.diag_can.specs.Event.{Event}
 use Rattle.diag_can.specs.Reply.{reply_line}
 use Rattle.diag_can.specs.WriterView.{WriterView}
 use Rattle.diag_can.specs.declared.log.Timing.{Timing}

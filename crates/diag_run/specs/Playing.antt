@@ -4,7 +4,7 @@ use Rattle.std.specs.Global.{Vec}
 use Rattle.std.specs.List.{concat}
 use Rattle.std.specs.Option.{option_to_list}
 use Rattle.diag_can.specs.WriterView.{WriterView}
-use Rattle.diag_can.specs.declared.frame.Event.{Event}
+use Rattle.diag_can.specs.Event.{Event}
 use Rattle.diag_can.specs.declared.log.Timing.{Timing}
 use Rattle.diag_can.specs.declared.log.Timing.TheVariants.{Lines, Stamps}
 use Rattle.diag_setup.specs.declared.raw.RawSetup.{RawSetup}

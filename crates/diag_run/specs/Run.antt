@@ -1,12 +1,12 @@
 -- What a run writes for its config and its files, or the fault that it answers.
-use Rattle.std.specs.Prelude.{◌≡◌, ◌≢◌, ◌≤◌, ◌<◌, ◌⊎◌, ◌&&◌, ℕ, Bool, codes, false, if◌then◌else◌, List, [], ◌∷◌, length, map, Option, Some, Result, Ok, Err, IsOk, IsOkAnd, IfSome, IsSome, true}
+use Rattle.std.specs.Prelude.{◌≡◌, ◌≢◌, ◌≤◌, ◌<◌, ◌⊎◌, ℕ, Bool, if◌then◌else◌, List, [], ◌∷◌, length, map, Option, Some, Result, Ok, Err, IsOk, IsOkAnd, IfSome, IsSome, true}
 use Rattle.std.specs.Global.{Vec}
 use Rattle.std.specs.Io.KnownBytes.{Appends, IsAtEnd, Keeps}
 use Rattle.std.specs.List.{concat}
-use Rattle.diag_can.specs.declared.frame.Event.{Event}
+use Rattle.diag_can.specs.Event.{Event}
 use Rattle.diag_can.specs.declared.log.Timing.{Timing}
 use Rattle.diag_setup.specs.declared.raw.RawSetup.{RawSetup}
-use Rattle.diag_setup.specs.Setup.{has_fd, link_of}
+use Rattle.diag_setup.specs.Setup.{link_of}
 use Rattle.diag_tp.specs.declared.sent.Sent.{Sent}
 use Rattle.diag_ecu.specs.State.{opening}
 use Rattle.diag_desk.specs.declared.entry.Entry.{Entry}
@@ -18,15 +18,15 @@ use Rattle.diag_desk.specs.Legal.{Run, after}
 use Rattle.diag_desk.specs.Replay.{IsLegalFor}
 use Rattle.diag_world.specs.Headline.{IsPlay}
 use Rattle.diag_world.specs.Weaving.{steps_of, turns, weave}
-use Rattle.diag_config.specs.Key.{◌>>=◌, bad_value}
+use Rattle.diag_config.specs.Key.{◌>>=◌}
 use Rattle.diag_text.specs.Bytes.{AppendsFront, ReadWhole}
 use Rattle.diag_text.specs.Faults.{fault_text, is_fixed, line_bytes, status}
 use Rattle.diag_text.specs.Taking.{LinesTaken}
-use Rattle.diag_run.specs.Files.{Refusal, bad_config, wrong_count, ConfigFails, Fails, AreKnown, ConfigEnds, FilesEnd, FilesRead, ReadEach, SaysSetup, config_of, counted, files_from, or_bad_log}
+use Rattle.diag_run.specs.Files.{Refusal, Fails, AreKnown, ConfigEnds, FilesEnd, FilesRead, ReadEach, SaysSetup, config_of, counted, files_from, or_bad_log}
 use Rattle.diag_workers.specs.Play.{logs_of}
 use Rattle.diag_text.specs.Text.{journal_part, whole_text, replay_text}
 use Rattle.diag_text.specs.declared.fault.RunFault.{RunFault}
-use Rattle.diag_text.specs.declared.fault.RunFault.TheVariants.{Config, Files, JournalLine, Memory, JournalFull, Read, Write, Differs}
+use Rattle.diag_text.specs.declared.fault.RunFault.TheVariants.{Files, JournalLine, Memory, JournalFull, Read, Write, Differs}
 use Rattle.diag_run.specs.declared.file_run.Outcome.{Outcome}
 use Rattle.diag_run.specs.declared.file_run.Outcome.TheVariants as outcome
 use Rattle.diag_run.specs.declared.file_run.Alone.{Alone}
@@ -61,21 +61,10 @@ pub record Inputs : Type 0 where
 abbrev pub inputs : RawSetup → List (List ℕ) → Inputs
 inputs setup texts = record { setup = setup; texts = texts }
 
-abbrev pub reads_logs : Job → Bool
-reads_logs (Serial only_journal timing) = true
-reads_logs (Play only_journal timing) = true
-reads_logs Replay = false
-
--- the job takes this setup and so many files: no tester whose log is read talks by CAN FD, for a log has classic frames alone
-unfoldable pub fits : Job → RawSetup → ℕ → Result (Unit {0}) Refusal
-fits job setup given =
-    if reads_logs job && has_fd setup then Err (bad_config (bad_value (codes "tester.fd")))
-    else counted (wanted job setup) given
-
 unfoldable pub read_of : Job → List ℕ → List (List ℕ) → Result Inputs Refusal
 read_of job config files = do
   setup ← config_of config
-  _ ← fits job setup (length files)
+  _ ← counted (wanted job setup) (length files)
   texts ← files_from (limit job) 1 files
   Ok (inputs setup texts)
 
@@ -227,20 +216,15 @@ pub record WroteFront (job : Job) (said : Result Inputs Refusal) (old new : Opti
 
 -- ---- how a run of any readers ends by a fault
 
--- the fault is that the job doesn't take this setup, or so many files
-abbrev pub IsMisfit : Job → RawSetup → ℕ → RunFault → Type 0
-IsMisfit job setup given (Config fault) = ConfigFails fault (fits job setup given)
-IsMisfit job setup given (Files wanted count) = fits job setup given ≡ Err (wrong_count wanted count)
-IsMisfit job setup given fault = ⊥
-
--- the config was read whole, and the job doesn't take its setup, or so many files, none of which was touched; or the fault
--- came in reading them
+-- the config was read whole, and there are not as many files as it wants, none of which was touched; or the fault came
+-- in reading them
 pub record FilesStop {R : Type 0} (remaining : R → Option (List ℕ)) (job : Job) (config config' : R)
     (files files' : List R) (fault : RunFault) : Type 0 where
   pub setup : RawSetup
   pub says : SaysSetup (remaining config) (remaining config') setup
-  pub ends : (IsMisfit job setup (length files) fault × (files' ≡ files))
-      ⊎ ((fits job setup (length files) ≡ Ok tt) × FilesEnd remaining (limit job) files files' fault)
+  pub ends : ((fault ≡ Files (wanted job setup) (length files)) × (wanted job setup ≢ length files)
+      × (files' ≡ files))
+      ⊎ ((wanted job setup ≡ length files) × FilesEnd remaining (limit job) files files' fault)
 
 -- the fault came in reading: the config, and no file was touched, or the files
 abbrev pub ReadingStops : {R : Type 0} → (R → Option (List ℕ)) → Job → R → R → List R → List R → RunFault

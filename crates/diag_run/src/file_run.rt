@@ -1,15 +1,13 @@
 //! A run over files: the config and the files in, one text out.
 
-ghost use Rattle.std.specs.Prelude.{◌≡◌, ◌≢◌, ◌&&◌, ℕ, List, length, IfOk, IfErr, OnOk, Some, Ok, Err};
+ghost use Rattle.std.specs.Prelude.{◌≡◌, ◌≢◌, ℕ, List, length, IfOk, IfErr, OnOk, Some, Ok, Err};
 ghost use Rattle.std.specs.Io.KnownBytes.{Keeps};
-ghost use Rattle.diag_setup.specs.Setup.{has_fd};
 ghost use Rattle.diag_run.specs.Files.{AreKnown, Fails, SaysSetup};
-ghost use Rattle.diag_run.specs.Run.{NamesAFile, ReadsConfigFirst, TextStops, WhereKnown, Writes, joined, job_of, wanted, reads_logs, fits, read_of, FilesGive, ReadToEnd, ReadingStops, RunStops, GivesRun, Wrote, WroteFront, IsFaultOf, DoneOf, Tells, TellsOf, answered};
+ghost use Rattle.diag_run.specs.Run.{NamesAFile, ReadsConfigFirst, TextStops, WhereKnown, Writes, joined, job_of, wanted, read_of, FilesGive, ReadToEnd, ReadingStops, RunStops, GivesRun, Wrote, WroteFront, IsFaultOf, DoneOf, Tells, TellsOf, answered};
 
 use crate::answer::{played_text, read_texts, replayed_text, woven_text};
 use crate::files::read_config;
 use diag_can::Timing;
-use diag_config::ConfigFault;
 use diag_setup::Setup;
 use diag_text::{FaultLine, RunFault, fault_text, status, write_whole};
 use std::alloc::Global;
@@ -36,16 +34,6 @@ impl Job {
         match self {
             Job::Serial { .. } | Job::Play { .. } => setup.testers(),
             Job::Replay => 1,
-        }
-    }
-
-    /// Whether it reads the testers' logs, which have classic frames alone, and a tester talks by CAN FD.
-    fn misses_frames(self, setup: &Setup) -> bool
-        ensures { result ≡ (reads_logs self && has_fd setup.now) }
-    {
-        match self {
-            Job::Serial { .. } | Job::Play { .. } => setup.has_fd(),
-            Job::Replay => false,
         }
     }
 }
@@ -77,8 +65,8 @@ impl Alone {
     }
 }
 
-/// Reads the config, and looks whether the job takes its setup and so many files.
-#[tactic(auto, unfolding(crate::specs::Run::read_of, crate::specs::Run::fits))]
+/// Reads the config, and counts the files.
+#[tactic(auto, unfolding(crate::specs::Run::read_of))]
 fn read_counted<R: Read>(
     alloc: Global,
     job: Job,
@@ -87,7 +75,6 @@ fn read_counted<R: Read>(
 ) -> Result<Setup, RunFault>
     ensures says { IfOk result (SaysSetup (R.remaining config.old) (R.remaining config.new)) }
     ensures count { IfOk result (λ setup. wanted job setup ≡ length files.now) }
-    ensures fits { IfOk result (λ setup. fits job setup (length files.now) ≡ Ok tt) }
     ensures fails { IfErr result (λ fault. (bytes : List ℕ) (known : List (List ℕ))
         → R.remaining config.old ≡ Some bytes
         → AreKnown R.remaining files.now known
@@ -97,9 +84,6 @@ fn read_counted<R: Read>(
         (ReadingStops R.remaining job config.old config.new files.now files.now) }
 {
     let setup = read_config(alloc, config)?;
-    if job.misses_frames(&setup) {
-        return Err(RunFault::Config(ConfigFault::BadValue("tester.fd")));
-    }
     let wanted = job.wanted(&setup);
     let given = files.len();
     if wanted != given {

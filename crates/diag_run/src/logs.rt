@@ -10,7 +10,7 @@ ghost use Rattle.diag_run.specs.Files.{AreTaken, FilesEnd, FilesRead};
 ghost use Rattle.diag_run.specs.Logs.{AreLogs, TookLog};
 
 use crate::files::{LOG_LIMIT, read_each};
-use diag_can::{Event, Ids, LogFault, LogReader, Timing};
+use diag_can::{Ids, Log, LogFault, LogReader, Timing};
 use diag_setup::{Setup, TesterId};
 use diag_text::{LineTaker, RunFault, TakeLines};
 use diag_workers::PlayFault;
@@ -104,7 +104,7 @@ pub(crate) fn read_logs<R: Read>(
 pub(crate) fn finish_logs(
     alloc: Global,
     takers: Vec<LineTaker<LogLines>>,
-) -> Result<Vec<Vec<Event>>, PlayFault>
+) -> Result<Vec<Log>, PlayFault>
     requires { (texts : List (List ℕ)) × AreTaken TookLog takers.items texts }
     ensures read { IfOk result (λ logs. (setup : RawSetup) (timing : ATiming) (texts : List (List ℕ))
         → AreLogs 1 setup timing takers.items
@@ -128,7 +128,7 @@ pub(crate) fn finish_logs(
 }
 
 /// The events of a log that was taken: what is begun is its last line.
-fn finish_log(taker: LineTaker<LogLines>) -> Result<Vec<Event>, PlayFault>
+fn finish_log(taker: LineTaker<LogLines>) -> Result<Log, PlayFault>
     requires { (text : List ℕ) × TookLog taker text }
     ensures { (text : List ℕ) → TookLog taker text
         → ReadsOne taker.lines.who (events text taker.lines.ids taker.lines.timing) result }

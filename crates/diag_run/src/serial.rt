@@ -7,7 +7,7 @@ ghost use Rattle.diag_world.specs.Weaving.{steps_of, turns};
 ghost use Rattle.diag_run.specs.Run.{IsPlayedText, in_turn, joined};
 
 use crate::playing::Playing;
-use diag_can::{Event, Timing};
+use diag_can::{Log, Timing};
 use diag_desk::StepFault;
 use diag_setup::Setup;
 use diag_world::{interleaving_law, take_turns, turns_law};
@@ -21,7 +21,7 @@ use std::alloc::Global;
 pub(crate) fn serial_text(
     alloc: Global,
     setup: &Setup,
-    logs: &[Vec<Event>],
+    logs: &[Log],
     only_journal: bool,
     timing: Timing,
 ) -> Result<Vec<Vec<u8>>, StepFault>

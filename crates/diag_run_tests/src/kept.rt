@@ -3,7 +3,7 @@
 
 use crate::ending::{Trouble, holds, is_whole};
 use crate::flushing::Flushed;
-use diag_can::{Event, LogFault, Timing, read_log};
+use diag_can::{Log, LogFault, Timing, read_log};
 use diag_desk::StepFault;
 use diag_run::{Alone, run_alone};
 use diag_setup::Setup;
@@ -13,7 +13,7 @@ use diag_world::{Played, serial};
 use std::alloc::{AllocError, Global};
 
 /// The events of the log of the tester at an index.
-fn events_of(alloc: Global, setup: &Setup, index: usize, log: &str) -> Result<Vec<Event>, Trouble> {
+fn events_of(alloc: Global, setup: &Setup, index: usize, log: &str) -> Result<Log, Trouble> {
     let Some(who) = setup.who(index) else {
         return Err(Trouble::Wrong);
     };
@@ -25,7 +25,7 @@ fn events_of(alloc: Global, setup: &Setup, index: usize, log: &str) -> Result<Ve
 }
 
 /// The events of both logs.
-fn both_logs(alloc: Global, setup: &Setup) -> Result<Vec<Vec<Event>>, Trouble> {
+fn both_logs(alloc: Global, setup: &Setup) -> Result<Vec<Log>, Trouble> {
     let mut logs = Vec::with_capacity(alloc, 2)?;
     logs.push(events_of(alloc, setup, 0, LOG_A)?)?;
     logs.push(events_of(alloc, setup, 1, LOG_B)?)?;
@@ -33,7 +33,7 @@ fn both_logs(alloc: Global, setup: &Setup) -> Result<Vec<Vec<Event>>, Trouble> {
 }
 
 /// The serial play of these logs.
-fn play_of(alloc: Global, setup: &Setup, logs: &[Vec<Event>]) -> Result<Played, Trouble> {
+fn play_of(alloc: Global, setup: &Setup, logs: &[Log]) -> Result<Played, Trouble> {
     if logs.len() != setup.testers() {
         return Err(Trouble::Wrong);
     }
@@ -60,7 +60,7 @@ fn is_counted(alloc: Global, setup: &Setup, played: &Played) -> Result<bool, All
 }
 
 /// Whether the play of these logs has both texts.
-fn is_played(alloc: Global, setup: &Setup, logs: &[Vec<Event>]) -> Result<bool, Trouble> {
+fn is_played(alloc: Global, setup: &Setup, logs: &[Log]) -> Result<bool, Trouble> {
     let played = play_of(alloc, setup, logs)?;
     Ok(is_told(alloc, setup, &played)? && is_counted(alloc, setup, &played)?)
 }

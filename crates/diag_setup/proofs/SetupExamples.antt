@@ -9,7 +9,7 @@ use Rattle.diag_setup.specs.declared.fault.SetupFault.TheVariants.{Range, Empty,
 use Rattle.diag_can.specs.Identifier.{extended}
 use Rattle.diag_pdu.specs.declared.length.DataLength.TheVariants.{Dl8, Dl12, Dl64}
 use Rattle.diag_setup.specs.declared.raw.RawSetup.{RawSetup}
-use Rattle.diag_setup.specs.Setup.{checked, fault_of, ids_of, link_of, flags_of, has_fd, known_ids}
+use Rattle.diag_setup.specs.Setup.{checked, fault_of, ids_of, link_of, flags_of, known_ids}
 use Rattle.diag_setup.specs.ExampleSetup.{two_testers, tester, did, routine, level, with_answers, echo_row, slow_row, enter_row}
 
 abbrev tester_a : RawTester
@@ -68,7 +68,7 @@ wide_tester : fault_of (record two_testers { testers = tester_a ∷ wide tester_
 wide_tester = refl
 
 wide_ids : ids_of (record two_testers { testers = tester_a ∷ wide tester_b 0x18DA10F1 0x18DAF110 ∷ [] }) 2
-    ≡ record { request = extended 0x18DA10F1; response = extended 0x18DAF110; functional = extended 0x18DB33F1 }
+    ≡ record { request = extended 0x18DA10F1; response = extended 0x18DAF110; functional = extended 0x18DB33F1; fd = false }
 wide_ids = refl
 
 -- of one number, but not of as many bits
@@ -89,7 +89,7 @@ request_of_12_bits = refl
 
 -- a functional identifier of its own, of either kind
 own_functional : ids_of (record two_testers { testers = tester_a ∷ record tester_b { functional = Some 0x700 } ∷ [] }) 2
-    ≡ record { request = 0x7E1; response = 0x7E9; functional = 0x700 }
+    ≡ record { request = 0x7E1; response = 0x7E9; functional = 0x700; fd = false }
 own_functional = refl
 
 own_functional_of_29_bits : fault_of (record two_testers { testers = record tester_a { functional = Some 0x18DB33F1 } ∷ [] }) ≡ Some Range
@@ -114,6 +114,9 @@ one_fd = record two_testers { testers = tester_a ∷ fd_tester ∷ [] }
 fd_is_well : fault_of one_fd ≡ None
 fd_is_well = refl
 
+ids_of_fd : ids_of one_fd 2 ≡ record { request = 0x7E1; response = 0x7E9; functional = 0x700; fd = true }
+ids_of_fd = refl
+
 framing_of_fd : (link_of one_fd 2).framing ≡ record { tx_dl = Dl64; pad = Some 0xCC; fill = 0xCC }
 framing_of_fd = refl
 
@@ -129,12 +132,6 @@ flags_of_fd = refl
 
 flags_of_classic : flags_of one_fd 1 ≡ None
 flags_of_classic = refl
-
-fd_is_among : has_fd one_fd ≡ true
-fd_is_among = refl
-
-fd_is_not_among : has_fd two_testers ≡ false
-fd_is_not_among = refl
 
 read_of_fd : known_ids one_fd ≡ record { id = 0x7E1; fd = true } ∷ record { id = 0x7E9; fd = true } ∷ record { id = 0x700; fd = true } ∷ []
 read_of_fd = refl

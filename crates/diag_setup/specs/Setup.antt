@@ -2,7 +2,7 @@
 use Rattle.std.specs.Prelude.{◌≡◌, ◌==◌, ◌&&◌, ◌||◌, ◌%◌, ◌+◌, ◌-◌, ◌*◌, max, bytes_eq, ℕ, Bool, true, false, not, List, [], ◌∷◌, length, Option, Some, None, is_some, Result, Ok, Err, if◌then◌else◌, nat_le, nat_lt, slice_get, unwrap_or}
 use Rattle.std.specs.List.{list_all, list_any, flat_map, sum_by}
 use Rattle.diag_can.specs.Identifier.{extended}
-use Rattle.diag_can.specs.Line.{known_by}
+use Rattle.diag_can.specs.Line.{known_to}
 use Rattle.diag_can.specs.declared.frame.Ids.{Ids}
 use Rattle.diag_can.specs.declared.frame.KnownId.{KnownId}
 use Rattle.diag_pdu.specs.Length.{length_of}
@@ -363,6 +363,7 @@ link_ids shared tester = record {
   request = id_by tester.extended tester.request;
   response = id_by tester.extended tester.response;
   functional = functional_of shared tester;
+  fd = tester.fd;
 }
 
 abbrev pub ids_of : RawSetup → ℕ → Ids
@@ -372,7 +373,7 @@ ids_of setup who = link_ids setup.functional (tester_of setup who)
 -- that talks by CAN FD all
 abbrev pub read_ids : ℕ → RawTester → List KnownId
 read_ids shared tester =
-    if tester.extended || tester.fd then known_by tester.fd (link_ids shared tester) else []
+    if tester.extended || tester.fd then known_to (link_ids shared tester) else []
 
 -- those of all testers, in a recording of the whole bus
 abbrev pub known_ids : RawSetup → List KnownId
@@ -409,13 +410,6 @@ is_fd_of setup who = (tester_of setup who).fd
 -- the flags that stand in the lines of what is sent to a tester; a classic frame has none
 abbrev pub flags_of : RawSetup → ℕ → Option ℕ
 flags_of setup who = if is_fd_of setup who then Some setup.fd_flags else None
-
-abbrev pub talks_by_fd : RawTester → Bool
-talks_by_fd tester = tester.fd
-
--- whether any tester and the unit talk by CAN FD
-abbrev pub has_fd : RawSetup → Bool
-has_fd setup = list_any talks_by_fd setup.testers
 
 -- the values that the services answer with
 abbrev pub values_of : RawSetup → ServerParameters

@@ -3,7 +3,7 @@
 ghost use Rattle.std.specs.Prelude.{IsTrue, IsSome, IfSome, IfOk, ◌≡◌, ◌≤◌, ◌-◌, length, Some, slice_get};
 ghost use Rattle.std.specs.List.{All, flat_map};
 ghost use Rattle.diag_pdu.specs.Length.{length_of};
-ghost use Rattle.diag_setup.specs.Setup.{IsSetup, checked, did_id, dtc_code, routine_id, level_sub, who_at, name_of, ids_of, link_ids, known_ids, read_ids, tester_of, tx_dl_of, framing_of, link_of, is_fd_of, flags_of, has_fd, values_of, id_by};
+ghost use Rattle.diag_setup.specs.Setup.{IsSetup, checked, did_id, dtc_code, routine_id, level_sub, who_at, name_of, ids_of, link_ids, known_ids, read_ids, tester_of, tx_dl_of, framing_of, link_of, is_fd_of, flags_of, values_of, id_by};
 ghost use Rattle.diag_setup.specs.Rows.{is_rising};
 ghost use Rattle.diag_setup.specs.Fits.{IdFits, TesterFits, DidFits, DtcFits, RoutineFits, LevelFits, AnswerFits, NumbersFit};
 
@@ -177,14 +177,6 @@ impl Setup {
         }
     }
 
-    /// Whether any tester and the unit talk by CAN FD.
-    pub fn has_fd(&self) -> bool
-        ensures { result ≡ has_fd self.now }
-    {
-        let testers = self.raw.testers.as_slice();
-        testers.iter().any(|tester| tester.fd)
-    }
-
     /// The values that the services answer with.
     pub fn values(&self) -> ServerParameters
         ensures { result ≡ values_of self.now }
@@ -290,6 +282,7 @@ impl RawTester {
             request: can_id(self.extended, self.request),
             response: can_id(self.extended, self.response),
             functional: can_id(self.extended, self.functional_number(shared)),
+            fd: self.fd,
         }
     }
 
@@ -315,7 +308,7 @@ fn known_ids(alloc: Global, testers: &[RawTester], shared: u32) -> Result<Vec<Kn
     let mut known = Vec::new(alloc);
     for tester in testers {
         if tester.extended || tester.fd {
-            known.extend_from_slice(&tester.ids(shared).known(tester.fd))?;
+            known.extend_from_slice(&tester.ids(shared).known())?;
         }
     }
     Ok(known)

@@ -150,6 +150,7 @@ impl Receiving {
     }
 
     /// Whether a Consecutive of this number and size is the next one, and not the last.
+    #[inline(always)]
     fn goes_on_with(&self, sequence_number: u8, size: usize) -> bool
         ensures is { result ≡ (expects self.now.seen sequence_number size
             && nat_lt (self.now.seen.count + 1) (consecutive_count self.now.seen.rx_dl self.now.seen.len)) }

@@ -5,7 +5,7 @@ use Rattle.std.specs.Prelude.{Option, Some, None, map, sum_by, nat_le, ◌==◌,
 use Rattle.std.proofs.lemmas.List.Sums.{sum_by-cons}
 use Rattle.std.proofs.Math.Seq.{drop-append_seam}
 use Rattle.std.proofs.lemmas.Bool.Decides.{nat_tests}
-use Rattle.diag_can.specs.declared.frame.Event.{Event}
+use Rattle.diag_can.specs.Event.{Event}
 use Rattle.diag_pdu.specs.declared.framing.Framing.{Framing}
 use Rattle.diag_pdu.specs.Length.{single_most}
 use Rattle.diag_pdu.specs.declared.setup.LinkSetup.{LinkSetup}

@@ -1,7 +1,7 @@
 //! What a link does with an event, field by field: the histories that it stands for come in at its public calls.
 
 ghost use Rattle.std.specs.Prelude.{◌≡◌, ◌↔◌, ◌≤◌, ◌+◌, [], ◌∷◌, length, if◌then◌else◌, is_some, Some, min, max, None, option_and_then, IfSome, IsNone, IsSome, IfNone, IfOk, OnOk, IsTrue, ◌<◌, true, false};
-ghost use Rattle.diag_can.specs.declared.frame.Event.{Event as AnEvent};
+ghost use Rattle.diag_can.specs.Event.{Event as AnEvent};
 ghost use Rattle.diag_pdu.specs.Request.{request_of};
 ghost use Rattle.diag_pdu.specs.Cut.{cut};
 ghost use Rattle.diag_pdu.specs.Kind.{Single, kind, says, IsRead, single_only, room_to_begin, needed_for};
@@ -16,7 +16,7 @@ ghost use Rattle.diag_tp.specs.Link.{is_frame, last_tick, needed, asked_of, part
 
 use crate::link::Link;
 use crate::taken::Taken;
-use diag_can::{EventKind, FrameBytes, LentEvent};
+use diag_can::{EventKind, FrameBytes, LentBytes, LentEvent};
 use diag_pdu::{MakeFrame, Message, Pci, Request, lone_frame};
 use std::alloc::AllocError;
 
@@ -69,12 +69,11 @@ impl Link {
 
     /// What a frame is to this side.
     #[inline(always)]
-    fn read<'f>(&self, frame: &'f [u8]) -> Pci<'f>
-        requires { length frame.now ≤ 64 }
+    fn read<'f>(&self, frame: &LentBytes<'f>) -> Pci<'f>
         ensures kind { says result ≡ kind frame.now self.now.state.setup.max_request }
         ensures read { IsRead self.now.state.setup.max_request (says result) }
     {
-        Pci::read(frame, self.setup.max_request)
+        Pci::read(frame.as_slice(), self.setup.max_request)
     }
 
     /// Whether the event completes a request, from the fields.
@@ -84,7 +83,7 @@ impl Link {
         ensures ticks { IsTrue result → IsTrue (is_frame event.now) }
     {
         match event.kind() {
-            EventKind::Physical(bytes) => match self.read(bytes) {
+            EventKind::Physical(bytes) => match self.read(&bytes) {
                 Pci::Single(_) => true,
                 Pci::Consecutive {
                     sequence_number,
@@ -92,7 +91,7 @@ impl Link {
                 } => self.receiver.completes(sequence_number, part),
                 _ => false,
             },
-            EventKind::Functional(bytes) => matches!(self.read(bytes), Pci::Single(_)),
+            EventKind::Functional(bytes) => matches!(self.read(&bytes), Pci::Single(_)),
             EventKind::Ticks(_) => false,
         }
     }
@@ -104,8 +103,8 @@ impl Link {
             asked_of request ≡ step_after self.now.state.setup self.now.state.partial event.now) }
     {
         match event.kind() {
-            EventKind::Physical(bytes) => Ok(asked(false, self.receiver.peek(self.read(bytes))?)),
-            EventKind::Functional(bytes) => match self.read(bytes) {
+            EventKind::Physical(bytes) => Ok(asked(false, self.receiver.peek(self.read(&bytes))?)),
+            EventKind::Functional(bytes) => match self.read(&bytes) {
                 Pci::Single(payload) => { Ok(asked(true, Some(Message::of(self.alloc, payload)?))) }
                 _ => Ok(None),
             },
@@ -129,12 +128,12 @@ impl Link {
         self.sender.make_room()?;
         match event.kind() {
             EventKind::Physical(bytes) => {
-                let pci = self.read(bytes);
-                self.take_up_own(bytes, pci)
+                let pci = self.read(&bytes);
+                self.take_up_own(&bytes, pci)
             }
-            EventKind::Functional(bytes) => match self.read(bytes) {
+            EventKind::Functional(bytes) => match self.read(&bytes) {
                 Pci::Single(payload) => {
-                    self.note(true, bytes, payload)?;
+                    self.note(true, &bytes, payload)?;
                     Ok(Taken::Functional)
                 }
                 _ => Ok(Taken::Ignored),
@@ -146,7 +145,11 @@ impl Link {
     /// Makes room for the message of a frame with the tester's own identifier, and notes or stages what it completes.
     #[tactic(auto, using(crate::proofs::Takings::taken_other))]
     #[inline(always)]
-    fn take_up_own<'f>(&mut self, bytes: &[u8], pci: Pci<'f>) -> Result<Taken<'f>, AllocError>
+    fn take_up_own<'f>(
+        &mut self,
+        bytes: &LentBytes<'f>,
+        pci: Pci<'f>,
+    ) -> Result<Taken<'f>, AllocError>
         requires kind { says pci ≡ kind bytes.now self.old.state.setup.max_request }
         requires read { IsRead self.old.state.setup.max_request (says pci) }
         ensures same { self.new.state ≡ self.old.state }
@@ -158,11 +161,11 @@ impl Link {
         ensures kept { self.old.room ≤ self.new.room }
         ensures reply_room { self.new.reply_room ≡ self.old.reply_room }
     {
+        if let Pci::Single(payload) = pci {
+            self.note(false, bytes, payload)?;
+            return Ok(Taken::Single);
+        }
         match pci {
-            Pci::Single(payload) => {
-                self.note(false, bytes, payload)?;
-                return Ok(Taken::Single);
-            }
             Pci::First { len, .. } => self.receiver.reserve(len)?,
             Pci::Consecutive {
                 sequence_number,
@@ -184,11 +187,11 @@ impl Link {
         ensures reply_room { self.new.reply_room ≡ self.old.reply_room }
     {
         match event.kind() {
-            EventKind::Physical(bytes) => match self.read(bytes) {
+            EventKind::Physical(bytes) => match self.read(&bytes) {
                 Pci::First { len, .. } => self.receiver.reserve(len),
                 pci => self.make_room_for_single(pci),
             },
-            EventKind::Functional(bytes) => self.make_room_for_single(self.read(bytes)),
+            EventKind::Functional(bytes) => self.make_room_for_single(self.read(&bytes)),
             EventKind::Ticks(_) => Ok(()),
         }
     }
@@ -210,10 +213,15 @@ impl Link {
         }
     }
 
-    /// Notes the request of a SingleFrame, in the place of the one before. The bytes of one of 8 bytes are moved together.
+    /// Notes the request of a SingleFrame, in the place of the one before. Those of a classic frame are moved together.
     #[tactic(auto, using(crate::proofs::Takings::payload_inside, crate::proofs::Takings::payload_same))]
     #[inline(always)]
-    fn note(&mut self, functional: bool, frame: &[u8], payload: &[u8]) -> Result<(), AllocError>
+    fn note(
+        &mut self,
+        functional: bool,
+        frame: &LentBytes<'_>,
+        payload: &[u8],
+    ) -> Result<(), AllocError>
         requires single { kind frame.now self.old.state.setup.max_request ≡ Single payload.now }
         requires some { 1 ≤ length payload.now }
         requires few { length payload.now ≤ 62 }
@@ -223,11 +231,10 @@ impl Link {
         ensures reply_room { self.new.reply_room ≡ self.old.reply_room }
     {
         let message = &mut self.noted.message;
-        match frame.as_array::<8>() {
-            Some(&eight) => {
-                message.set_in_place(FrameBytes::full(eight).part(1, payload.len()));
-            }
-            None => message.set(self.alloc, payload)?,
+        if frame.as_slice().len() <= 8 {
+            message.set_in_place(frame.part(1, payload.len()));
+        } else {
+            message.set(self.alloc, payload)?;
         }
         self.noted.functional = functional;
         Ok(())
@@ -270,12 +277,12 @@ impl Link {
     {
         match event.kind() {
             EventKind::Physical(bytes) => {
-                let pci = self.read(bytes);
+                let pci = self.read(&bytes);
                 let message = self.receiver.complete(pci);
                 self.take_pci(pci);
                 asked(false, message)
             }
-            EventKind::Functional(bytes) => match self.read(bytes) {
+            EventKind::Functional(bytes) => match self.read(&bytes) {
                 Pci::Single(payload) => asked(true, Some(self.receiver.single(payload))),
                 _ => None,
             },

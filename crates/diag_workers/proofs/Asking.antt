@@ -2,7 +2,8 @@
 use Rattle.std.proofs.Common.{◌≡◌, ℕ, ◌+◌, List, [], ◌∷◌, map, Ok, Err, inr, refl, subst}
 use Rattle.std.specs.Global.{Vec}
 use Rattle.std.specs.Prelude.{IsOk, Result}
-use Rattle.diag_can.specs.declared.frame.Event.{Event}
+use Rattle.diag_can.specs.Event.{Event}
+use Rattle.diag_can.specs.EventLog.{Events}
 use Rattle.diag_can.specs.declared.fault.LogFault.{LogFault}
 use Rattle.diag_can.specs.declared.log.Timing.{Timing}
 use Rattle.diag_can.specs.Log.{events}
@@ -32,12 +33,12 @@ behind_well n setup timing text texts log well asks = inr (rw well refl, asks)
 
 -- where it and they were read
 pub both_read : (n : ℕ) (setup : RawSetup) (timing : Timing) (text : List ℕ) (texts : List (List ℕ)) (count : ℕ)
-    (one : Result (Vec Event) PlayFault) (others : Result (Vec (Vec Event)) PlayFault) (log : Vec Event) (logs : Vec (Vec Event))
+    (one : Result Events PlayFault) (others : Result (Vec Events) PlayFault) (log : Events) (logs : Vec Events)
     → one ≡ Ok log → others ≡ Ok logs → ReadsOne n (events text (ids_of setup n) timing) one
     → Reads (logs_from (n + 1) setup timing texts) count others → AsksFrom n setup timing (text ∷ texts)
 both_read n setup timing text texts count one others log logs is_one is_others reads_one reads_others =
     let first : ReadsOne n (events text (ids_of setup n) timing) (Ok log) =
-    subst (λ (r : Result (Vec Event) PlayFault). ReadsOne n (events text (ids_of setup n) timing) r) is_one reads_one in
+    subst (λ (r : Result Events PlayFault). ReadsOne n (events text (ids_of setup n) timing) r) is_one reads_one in
     let rest : Reads (logs_from (n + 1) setup timing texts) count (Ok logs) =
-    subst (λ (r : Result (Vec (Vec Event)) PlayFault). Reads (logs_from (n + 1) setup timing texts) count r) is_others reads_others in
+    subst (λ (r : Result (Vec Events) PlayFault). Reads (logs_from (n + 1) setup timing texts) count r) is_others reads_others in
     behind_well n setup timing text texts log.items first.0 (all_well (n + 1) setup timing texts (map (λ log. log.items) logs.items) rest.0)

@@ -1,7 +1,7 @@
 -- What a crew of workers does: for each tester what one worker does.
 use Rattle.std.specs.Prelude.{◌≡◌, ℕ, List, [], ◌∷◌, Option}
 use Rattle.atomic_table.specs.Seated.{TableId}
-use Rattle.diag_can.specs.declared.frame.Event.{Event}
+use Rattle.diag_can.specs.Event.{Event}
 use Rattle.diag_pdu.specs.declared.setup.LinkSetup.{LinkSetup}
 use Rattle.diag_desk.specs.declared.entry.Entry.{Entry}
 use Rattle.diag_desk.specs.Timed.{Timed}

@@ -1,8 +1,9 @@
 -- The logs of all testers, as they are read: in order, and the first that is at fault decides.
-use Rattle.std.specs.Prelude.{◌≡◌, ◌≤◌, ◌⊎◌, ℕ, ◌+◌, IsOk, List, [], ◌∷◌, length, map, Result, Ok, Err, vec_len}
+use Rattle.std.specs.Prelude.{◌≡◌, ◌≤◌, ◌⊎◌, ℕ, ◌+◌, IsOk, List, [], ◌∷◌, length, map, Result, Ok, Err}
 use Rattle.std.specs.Global.{Vec}
 use Rattle.std.specs.List.{AllByRecursion}
-use Rattle.diag_can.specs.declared.frame.Event.{Event}
+use Rattle.diag_can.specs.Event.{Event}
+use Rattle.diag_can.specs.EventLog.{Events}
 use Rattle.diag_can.specs.declared.log.Timing.{Timing}
 use Rattle.diag_can.specs.declared.fault.LogFault.{LogFault}
 use Rattle.diag_can.specs.Growing.{HasEvent}
@@ -42,8 +43,8 @@ abbrev pub LogsAsk : RawSetup → Timing → List (List ℕ) → Type 0
 LogsAsk setup timing texts = AsksFrom 1 setup timing texts
 
 -- what reading a tester's log answers, where this is what it says
-abbrev pub ReadsOne : ℕ → Result (List Event) LogFault → Result (Vec Event) PlayFault → Type 0
-ReadsOne n log (Ok read) = (log ≡ Ok read.items) × (vec_len read ≤ most_events)
+abbrev pub ReadsOne : ℕ → Result (List Event) LogFault → Result Events PlayFault → Type 0
+ReadsOne n log (Ok read) = (log ≡ Ok read.items) × (length read.items ≤ most_events)
 ReadsOne n log (Err Memory) = Unit {0}
 ReadsOne n log (Err (Log who fault)) = (who ≡ n) × (log ≡ Err fault)
 ReadsOne n log (Err JournalFull) = ⊥
@@ -58,8 +59,8 @@ NotRead logs (RecordsDisagree who) = ⊥
 
 -- what reading so many logs answers, where this is what they say: each has at most 1,000,000 events
 abbrev pub Reads : Result (List (List Event)) (ℕ × LogFault) → ℕ
-    → Result (Vec (Vec Event)) PlayFault → Type 0
+    → Result (Vec Events) PlayFault → Type 0
 Reads logs count (Ok read) = (logs ≡ Ok (map (λ log. log.items) read.items))
     × (length read.items ≡ count)
-    × AllByRecursion (λ log. vec_len log ≤ most_events) read.items
+    × AllByRecursion (λ log. length log.items ≤ most_events) read.items
 Reads logs count (Err fault) = NotRead logs fault

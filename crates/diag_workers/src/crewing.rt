@@ -1,8 +1,7 @@
 //! All testers' workers at the same time.
-ghost use Rattle.std.specs.Prelude.{◌≡◌, ◌<◌, ◌≤◌, ◌∷◌, [], length, map, IfOk, vec_len};
+ghost use Rattle.std.specs.Prelude.{◌≡◌, ◌<◌, ◌≤◌, ◌∷◌, [], length, map, IfOk};
 ghost use Rattle.std.specs.List.{AllByRecursion};
 ghost use Rattle.std.specs.Thread.{IsSync, IsSend};
-ghost use Rattle.diag_can.specs.Log.{most_events};
 ghost use Rattle.diag_pdu.specs.Cut.{counted_from};
 ghost use Rattle.diag_setup.specs.Setup.{link_of};
 ghost use Rattle.diag_port.specs.Late.{pace_of};
@@ -11,7 +10,7 @@ ghost use Rattle.diag_workers.specs.Work.{holds};
 
 use crate::keeping::Keep;
 use crate::working::{WorkerRecord, work_keeping};
-use diag_can::Event;
+use diag_can::Log;
 use diag_desk::StepFault;
 use diag_gate::Door;
 use diag_setup::Setup;
@@ -27,11 +26,10 @@ pub fn crew<D: Door + Send + Drop, R: Threads + Sync>(
     rt: &R,
     alloc: Global,
     setup: &Setup,
-    logs: &[Vec<Event>],
+    logs: &[Log],
     doors: Vec<D>,
 ) -> Result<Vec<(WorkerRecord, D)>, StepFault>
     requires logs { length logs.now ≡ length setup.now.testers }
-    requires limits { AllByRecursion (λ log. vec_len log ≤ most_events) logs.now }
     requires doors { map D.tester doors.items ≡ counted_from 1 (length setup.now.testers) }
     ensures { IfOk result (λ done. AllWorked (link_of setup.now) (pace_of setup.now) D.tester D.given D.home holds
         (map (λ log. log.items) logs.now) doors.items done.items) }
@@ -44,11 +42,10 @@ pub(crate) fn crew_keeping<K: Keep + Send + Drop, D: Door + Send + Drop, R: Thre
     rt: &R,
     alloc: Global,
     setup: &Setup,
-    logs: &[Vec<Event>],
+    logs: &[Log],
     doors: Vec<D>,
 ) -> Result<Vec<(WorkerRecord<K>, D)>, StepFault>
     requires logs { length logs.now ≡ length setup.now.testers }
-    requires limits { AllByRecursion (λ log. vec_len log ≤ most_events) logs.now }
     requires doors { map D.tester doors.items ≡ counted_from 1 (length setup.now.testers) }
     ensures { IfOk result (λ done. AllWorked (link_of setup.now) (pace_of setup.now) D.tester D.given D.home K.keeps
         (map (λ log. log.items) logs.now) doors.items done.items) }
@@ -61,11 +58,10 @@ fn crew_of<K: Keep + Send + Drop, D: Door + Send + Drop, R: Threads + Sync>(
     rt: &R,
     alloc: Global,
     setup: &Setup,
-    logs: &[Vec<Event>],
+    logs: &[Log],
     mut doors: Vec<D>,
 ) -> Result<Vec<(WorkerRecord<K>, D)>, StepFault>
     requires as_many { length doors.items ≡ length logs.now }
-    requires limits { AllByRecursion (λ log. vec_len log ≤ most_events) logs.now }
     requires in_setup { AllByRecursion
         (λ door. D.tester door ≤ length setup.now.testers) doors.items }
     ensures { IfOk result (λ done. AllWorked (link_of setup.now) (pace_of setup.now) D.tester D.given D.home K.keeps
@@ -82,7 +78,7 @@ fn crew_of<K: Keep + Send + Drop, D: Door + Send + Drop, R: Threads + Sync>(
     let (one, others) = join(
         rt,
         move || -> Result<(WorkerRecord<K>, D), StepFault>
-            requires { (vec_len log.now ≤ most_events) × (D.tester door ≤ length setup.now.testers) }
+            requires { D.tester door ≤ length setup.now.testers }
             ensures { IfOk result (λ r. Worked (link_of setup.entry.now) (pace_of setup.entry.now)
                 D.tester D.given D.home K.keeps log.entry.now.items door r.0 r.1) }
         { worked(alloc, setup, log, door) },
@@ -91,7 +87,6 @@ fn crew_of<K: Keep + Send + Drop, D: Door + Send + Drop, R: Threads + Sync>(
                 × IsSend K.row
                 × IsSend D.row
                 × (length doors.items ≡ length logs.now)
-                × AllByRecursion (λ log. vec_len log ≤ most_events) logs.now
                 × AllByRecursion (λ door. D.tester door ≤ length setup.now.testers) doors.items }
             ensures { IfOk result (λ done. AllWorked (link_of setup.entry.now) (pace_of setup.entry.now) D.tester
                 D.given D.home K.keeps (map (λ log. log.items) logs.entry.now) doors.items done.items) }
@@ -126,13 +121,12 @@ pub(crate) fn first_of<T>(items: &mut Vec<T>) -> T
 fn worked<K: Keep + Drop, D: Door + Drop>(
     alloc: Global,
     setup: &Setup,
-    log: &[Event],
+    log: &Log,
     mut door: D,
 ) -> Result<(WorkerRecord<K>, D), StepFault>
-    requires limit { length log.now ≤ most_events }
-    requires in_setup { D.tester door ≤ length setup.now.testers }
+    requires { D.tester door ≤ length setup.now.testers }
     ensures { IfOk result (λ r.
-        Worked (link_of setup.now) (pace_of setup.now) D.tester D.given D.home K.keeps log.now door r.0 r.1) }
+        Worked (link_of setup.now) (pace_of setup.now) D.tester D.given D.home K.keeps log.now.items door r.0 r.1) }
 {
     let who = door.who();
     let record = work_keeping(alloc, setup, who, log, &mut door)?;

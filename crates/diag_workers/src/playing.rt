@@ -1,8 +1,6 @@
 //! All testers' logs at the same time, over one gate.
-ghost use Rattle.std.specs.Prelude.{◌≡◌, ◌≢◌, ◌≤◌, ℕ, List, length, map, IfOk, vec_len, Ok, Err, Some};
-ghost use Rattle.std.specs.List.{AllByRecursion};
-ghost use Rattle.diag_can.specs.Log.{most_events};
-ghost use Rattle.diag_can.specs.declared.frame.Event.{Event as AnEvent};
+ghost use Rattle.std.specs.Prelude.{◌≡◌, ◌≢◌, ℕ, List, length, map, IfOk, Ok, Err, Some};
+ghost use Rattle.diag_can.specs.Event.{Event as AnEvent};
 ghost use Rattle.diag_can.specs.declared.fault.LogFault.{LogFault as ALogFault};
 ghost use Rattle.diag_setup.specs.Setup.{link_of};
 ghost use Rattle.diag_world.specs.Headline.{IsPlay};
@@ -15,7 +13,7 @@ use crate::keeping::Unkept;
 use crate::reading::read_beside;
 use crate::seating::{doors_of, give_out, take_apart, take_in};
 use crate::watch::Watch;
-use diag_can::{Event, LogFault, Timing};
+use diag_can::{Log, LogFault, Timing};
 use diag_desk::{Desk, StepFault};
 use diag_gate::Gate;
 use diag_setup::{Setup, TesterId};
@@ -110,11 +108,10 @@ fn play_logs<W: Watch + Sync, R: Threads + Wait + Sync>(
     rt: &R,
     alloc: Global,
     setup: &Setup,
-    logs: &[Vec<Event>],
+    logs: &[Log],
     watch: &W,
 ) -> Result<Played, StepFault>
-    requires logs { length logs.now ≡ length setup.now.testers }
-    requires limits { AllByRecursion (λ log. vec_len log ≤ most_events) logs.now }
+    requires { length logs.now ≡ length setup.now.testers }
     ensures { IfOk result (λ played. IsPlay setup.now
         (weave (link_of setup.now) played.desk.journal (map (λ log. log.items) logs.now))
         (map (λ log. log.items) logs.now) played.desk (map (λ s. s.items) played.sent.items)) }

@@ -7,7 +7,7 @@ ghost use Rattle.diag_setup.specs.Setup.{ids_of};
 ghost use Rattle.diag_workers.specs.Play.{AsksFrom, Reads, ReadsOne, logs_from};
 
 use crate::playing::PlayFault;
-use diag_can::{Event, LogFault, Timing, read_log};
+use diag_can::{Log, LogFault, Timing, read_log};
 use diag_setup::{Setup, TesterId};
 use std::alloc::Global;
 use std::thread::{Threads, join};
@@ -25,7 +25,7 @@ pub(crate) fn read_beside<R: Threads + Sync>(
     place: u8,
     texts: &[Vec<u8>],
     timing: Timing,
-) -> Result<Vec<Vec<Event>>, PlayFault>
+) -> Result<Vec<Log>, PlayFault>
     requires place { (1 ≤ place) × (place + length texts.now ≤ 9) }
     requires in_setup { place + length texts.now ≤ length setup.now.testers + 1 }
     ensures reads { Reads (logs_from place setup.now timing (map (λ text. text.items) texts.now))
@@ -42,14 +42,14 @@ pub(crate) fn read_beside<R: Threads + Sync>(
     }
     let (one, others) = join(
         rt,
-        move || -> Result<Vec<Event>, PlayFault>
+        move || -> Result<Log, PlayFault>
             requires { (1 ≤ place) × (place ≤ 8) × (place ≤ length setup.now.testers) }
             ensures { ReadsOne place
                 (events text.entry.now.items (ids_of setup.entry.now place) timing) result
                 × (result ≡ Err PlayFault.Memory
                 → HasEvent timing (ids_of setup.entry.now place) text.entry.now.items) }
         { read_one(alloc, setup, place, text.as_slice(), timing) },
-        move || -> Result<Vec<Vec<Event>>, PlayFault>
+        move || -> Result<Vec<Log>, PlayFault>
             requires { IsSync R.row
                 × (1 ≤ place)
                 × (place + 1 + length rest.now ≤ 9)
@@ -64,7 +64,7 @@ pub(crate) fn read_beside<R: Threads + Sync>(
 }
 
 /// A log before those of the testers after it.
-fn in_front(one: Vec<Event>, mut others: Vec<Vec<Event>>) -> Result<Vec<Vec<Event>>, PlayFault>
+fn in_front(one: Log, mut others: Vec<Log>) -> Result<Vec<Log>, PlayFault>
     ensures logs { IfOk result (λ logs. logs.items ≡ one ∷ others.items) }
     ensures refused { IfErr result (λ fault. fault ≡ PlayFault.Memory) }
 {
@@ -81,7 +81,7 @@ fn read_one(
     place: u8,
     text: &[u8],
     timing: Timing,
-) -> Result<Vec<Event>, PlayFault>
+) -> Result<Log, PlayFault>
     requires place { (1 ≤ place) × (place ≤ 8) }
     requires in_setup { place ≤ length setup.now.testers }
     ensures reads { ReadsOne place (events text.now (ids_of setup.now place) timing) result }

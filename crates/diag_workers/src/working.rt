@@ -1,6 +1,5 @@
 //! One tester's worker.
 ghost use Rattle.std.specs.Prelude.{◌≡◌, ◌≤◌, [], length, false, IfOk, OnOk, OnErr};
-ghost use Rattle.diag_can.specs.Log.{most_events};
 ghost use Rattle.diag_setup.specs.Setup.{link_of};
 ghost use Rattle.diag_desk.specs.Entry.{HasNoReply};
 ghost use Rattle.diag_gate.specs.Views.{HasNoDelay, timed_answer};
@@ -9,7 +8,7 @@ ghost use Rattle.diag_world.specs.Channel.{channel_of, ChannelStands, IsResting}
 ghost use Rattle.diag_workers.specs.Work.{AskedSome, CanKeep, HasAsked, PlayedLog, WorkerTook, holds};
 
 use crate::keeping::Keep;
-use diag_can::{Event, TickCount};
+use diag_can::{LentEvent, Log, TickCount};
 use diag_desk::{Journal, StepFault};
 use diag_gate::Door;
 use diag_pdu::{LinkSetup, Message, Request, Step};
@@ -28,7 +27,7 @@ pub struct WorkerRecord<K = Journal> {
     pub sent: SentFrames,
 }
 
-/// Takes one tester's events, and asks its door for each step that they give.
+/// Takes the events of one tester's log, and asks its door for each step that they give.
 ///
 /// All growths for an event are made before the door is asked.
 ///
@@ -39,20 +38,19 @@ pub fn work<D: Door>(
     alloc: Global,
     setup: &Setup,
     who: TesterId,
-    events: &[Event],
+    log: &Log,
     door: &mut D,
 ) -> Result<WorkerRecord, StepFault>
-    requires limit { length events.now ≤ most_events }
     requires in_setup { who ≤ length setup.now.testers }
     requires own_door { D.tester door.old ≡ who }
     ensures played { IfOk result (λ r. PlayedLog (link_of setup.now who) (pace_of setup.now) who
-        events.now (D.given door.old) (D.given door.new) r.sent.items (holds r.entries)) }
+        log.now.items (D.given door.old) (D.given door.new) r.sent.items (holds r.entries)) }
     ensures refused { OnErr result
-        (AskedSome (link_of setup.now who) who events.now (D.given door.old) (D.given door.new)) }
+        (AskedSome (link_of setup.now who) who log.now.items (D.given door.old) (D.given door.new)) }
     ensures tester { D.tester door.new ≡ D.tester door.old }
     ensures home { D.home door.new ≡ D.home door.old }
 {
-    work_keeping(alloc, setup, who, events, door)
+    work_keeping(alloc, setup, who, log, door)
 }
 
 /// The same, with whatever is kept.
@@ -60,22 +58,21 @@ pub(crate) fn work_keeping<K: Keep + Drop, D: Door>(
     alloc: Global,
     setup: &Setup,
     who: TesterId,
-    events: &[Event],
+    log: &Log,
     door: &mut D,
 ) -> Result<WorkerRecord<K>, StepFault>
-    requires limit { length events.now ≤ most_events }
     requires in_setup { who ≤ length setup.now.testers }
     requires own_door { D.tester door.old ≡ who }
     ensures played { IfOk result (λ r. PlayedLog (link_of setup.now who) (pace_of setup.now) who
-        events.now (D.given door.old) (D.given door.new) r.sent.items (K.keeps r.entries)) }
+        log.now.items (D.given door.old) (D.given door.new) r.sent.items (K.keeps r.entries)) }
     ensures refused { OnErr result
-        (AskedSome (link_of setup.now who) who events.now (D.given door.old) (D.given door.new)) }
+        (AskedSome (link_of setup.now who) who log.now.items (D.given door.old) (D.given door.new)) }
     ensures tester { D.tester door.new ≡ D.tester door.old }
     ensures home { D.home door.new ≡ D.home door.old }
 {
     let mut worker = Worker::new(alloc, setup.link(who), Pace::of(setup));
-    for event in events {
-        worker.take(event, door)?;
+    for index in 0..log.len() {
+        worker.take(&log.get(index), door)?;
     }
     let Worker { channel, entries } = worker;
     Ok(WorkerRecord {
@@ -104,7 +101,7 @@ impl<K: Keep> Worker<K> {
     }
 
     /// Takes one event. All that can be refused but the door's step comes before it.
-    fn take<D: Door>(&mut self, event: &Event, door: &mut D) -> Result<(), StepFault>
+    fn take<D: Door>(&mut self, event: &LentEvent<'_>, door: &mut D) -> Result<(), StepFault>
         requires rest { IsResting self.old.channel }
         requires limit { CanKeep K.keeps self.old.entries }
         ensures took { OnOk result (WorkerTook (D.tester door.old)
@@ -121,7 +118,7 @@ impl<K: Keep> Worker<K> {
             entries: &mut self.entries,
             door,
         };
-        self.channel.take(who, &event.lent(), &mut asking)
+        self.channel.take(who, event, &mut asking)
     }
 }
 

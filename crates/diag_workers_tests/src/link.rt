@@ -5,7 +5,7 @@ ghost use Rattle.std.specs.Prelude.{◌≡◌, IfOk, IsTrue, OnOk};
 ghost use Rattle.diag_tp.specs.Link.{is_frame, pending};
 
 use crate::trouble::{Trouble, holds};
-use diag_can::LentEvent;
+use diag_can::{FrameBytes, LentBytes, LentEvent};
 use diag_pdu::{Framing, LinkSetup, Message, Pci, Request, frame_of};
 use diag_setup::Setup;
 use diag_stored::two_testers;
@@ -78,7 +78,8 @@ fn reads_once(alloc: Global, link: &mut Link) -> Result<bool, Trouble>
     requires { pending link.old.state ≡ 0 }
     ensures { OnOk result (pending link.new.state ≡ 0) }
 {
-    let read = reads(alloc, link, &LentEvent::physical(b"\x03\x22\xF1\x90"))?;
+    let frame = FrameBytes::from_slice(b"\x03\x22\xF1\x90");
+    let read = reads(alloc, link, &LentEvent::physical(LentBytes::short(&frame)))?;
     drain(link);
     Ok(read)
 }

@@ -3,7 +3,7 @@
 ghost use Rattle.std.specs.Prelude.{◌≡◌, ◌≤◌, length};
 
 use crate::trouble::{Trouble, holds};
-use diag_can::{CanId, Frame, FrameBytes, Ids, LentEvent, TickCount};
+use diag_can::{CanId, Frame, FrameBytes, Ids, LentBytes, LentEvent, TickCount};
 use diag_setup::{Setup, TesterId};
 use diag_stored::two_testers;
 use diag_tp::{SentFrame, SentFrames};
@@ -13,9 +13,9 @@ use std::alloc::Global;
 /// What a frame of the bus is for a tester with these identifiers, if anything.
 fn event_for<'f>(ids: &Ids, frame: &'f Frame) -> Option<LentEvent<'f>> {
     if frame.id == ids.request {
-        Some(LentEvent::physical(frame.bytes.as_slice()))
+        Some(LentEvent::physical(LentBytes::short(&frame.bytes)))
     } else if frame.id == ids.functional {
-        Some(LentEvent::functional(frame.bytes.as_slice()))
+        Some(LentEvent::functional(LentBytes::short(&frame.bytes)))
     } else {
         None
     }

@@ -6,7 +6,7 @@ ghost use Rattle.diag_tp.specs.Link.{is_frame, pending, quiet};
 use crate::ecu::opened as opened_ecu;
 use crate::link::opened as opened_link;
 use crate::trouble::{Trouble, holds};
-use diag_can::{LentEvent, TickCount};
+use diag_can::{FrameBytes, LentBytes, LentEvent, TickCount};
 use diag_ecu::Ecu;
 use diag_pdu::{Message, Request};
 use diag_setup::TesterId;
@@ -122,10 +122,22 @@ fn ask(link: &mut Link, ecu: &mut Ecu, who: TesterId, sent: &mut Recorder) -> Re
     requires { pending link.old.state ≡ 0 }
     ensures { pending link.new.state ≡ 0 }
 {
-    let read = LentEvent::physical(b"\x03\x22\xF1\x90");
-    let flow = LentEvent::physical(b"\x30\x00\x05");
-    take(link, ecu, who, &read, sent)?;
-    take(link, ecu, who, &flow, sent)
+    let read = FrameBytes::from_slice(b"\x03\x22\xF1\x90");
+    let flow = FrameBytes::from_slice(b"\x30\x00\x05");
+    take(
+        link,
+        ecu,
+        who,
+        &LentEvent::physical(LentBytes::short(&read)),
+        sent,
+    )?;
+    take(
+        link,
+        ecu,
+        who,
+        &LentEvent::physical(LentBytes::short(&flow)),
+        sent,
+    )
 }
 
 /// Lets so many milliseconds pass, where the link allows it in one move. Whether it does.

@@ -3,7 +3,7 @@
 ghost use Rattle.std.specs.Prelude.{◌≡◌, ◌≤◌, length};
 
 use crate::trouble::{Trouble, holds};
-use diag_can::{LentEvent, read_line, write_line};
+use diag_can::{LentEvent, Timing, read_log, write_line};
 use diag_desk::{StepFault, journal_text};
 use diag_setup::{Setup, TesterId};
 use diag_stored::{PLAYED, two_testers};
@@ -39,25 +39,32 @@ fn give(world: &mut World, who: TesterId, event: &LentEvent<'_>) -> Result<(), S
 }
 
 /// Gives the event of a tester's line.
-fn give_line(world: &mut World, setup: &Setup, index: usize, line: &[u8]) -> Result<(), Trouble>
+fn give_line(
+    alloc: Global,
+    world: &mut World,
+    setup: &Setup,
+    index: usize,
+    line: &[u8],
+) -> Result<(), Trouble>
     requires { length world.old.sent ≡ length setup.now.testers }
     ensures { length world.new.sent ≡ length world.old.sent }
 {
     let Some(who) = setup.who(index) else {
         return Err(Trouble::Wrong);
     };
-    match read_line(line, &setup.ids(who)) {
-        Ok(Some(event)) => Ok(give(world, who, &event.lent())?),
-        _ => Err(Trouble::Wrong),
+    let log = read_log(alloc, line, &setup.ids(who), Timing::Lines)?;
+    if log.len() != 1 {
+        return Err(Trouble::Wrong);
     }
+    Ok(give(world, who, &log.get(0))?)
 }
 
-fn give_all(world: &mut World, setup: &Setup) -> Result<(), Trouble>
+fn give_all(alloc: Global, world: &mut World, setup: &Setup) -> Result<(), Trouble>
     requires { length world.old.sent ≡ length setup.now.testers }
     ensures { length world.new.sent ≡ length world.old.sent }
 {
     for (index, line) in &TURNS {
-        give_line(world, setup, *index, line)?;
+        give_line(alloc, world, setup, *index, line)?;
     }
     Ok(())
 }
@@ -107,7 +114,7 @@ fn tells(alloc: Global, world: &World, setup: &Setup) -> Result<bool, Trouble>
 fn tells_all(alloc: Global, world: &mut World, setup: &Setup) -> Result<bool, Trouble>
     requires { length world.old.sent ≡ length setup.now.testers }
 {
-    give_all(world, setup)?;
+    give_all(alloc, world, setup)?;
     tells(alloc, world, setup)
 }
 

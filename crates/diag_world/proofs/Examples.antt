@@ -1,7 +1,7 @@
 -- Worked examples of the definitions, with the transport's own steps.
 use Rattle.std.proofs.Common.{◌≡◌, ℕ, false, None, Some, List, [], ◌∷◌, refl}
-use Rattle.diag_can.specs.declared.frame.Event.{Event}
-use Rattle.diag_can.specs.declared.frame.Event.TheVariants.{Physical, Ticks}
+use Rattle.diag_can.specs.Event.{Event}
+use Rattle.diag_can.specs.Event.{Physical, Ticks}
 use Rattle.diag_pdu.specs.declared.length.DataLength.TheVariants.{Dl8}
 use Rattle.diag_pdu.specs.declared.setup.LinkSetup.{LinkSetup}
 use Rattle.diag_pdu.specs.declared.step.Step.TheVariants as step
@@ -16,7 +16,7 @@ use Rattle.diag_world.specs.Weaving.{steps_of, turns, weave}
 -- the settings of tester t's link
 abbrev links : ℕ → LinkSetup
 links t = record {
-  ids = record { request = 2016; response = 2024; functional = 2015 };
+  ids = record { request = 2016; response = 2024; functional = 2015; fd = false };
   block_size = 0;
   st_min = 0;
   max_request = 4095;

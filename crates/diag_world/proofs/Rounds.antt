@@ -3,7 +3,7 @@ use Rattle.std.proofs.Common.{◌≡◌, ◌≤◌, ℕ, zero, suc, ◌+◌, Lis
 use Rattle.std.specs.Prelude.{max, slice_get, Some, None}
 use Rattle.std.proofs.lemmas.List.{append-nil, drop_all, take-append-drop}
 use Rattle.std.proofs.Math.Seq.{drop-nil}
-use Rattle.diag_can.specs.declared.frame.Event.{Event}
+use Rattle.diag_can.specs.Event.{Event}
 use Rattle.diag_world.specs.Weaving.{first_of_each, longest, rounds}
 
 pub longest_push : (xs : List (List Event)) (x : List Event) → longest (xs ++ x ∷ []) ≡ max (longest xs) (length x)

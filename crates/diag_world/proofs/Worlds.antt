@@ -4,7 +4,7 @@ use Rattle.std.proofs.lemmas.List.{append-nil}
 use Rattle.std.proofs.lemmas.Bool.{eq-eqb}
 use Rattle.std.proofs.lemmas.Bool.Decides.{nat_tests}
 use Rattle.std.specs.Prelude.{◌==◌, ◌⊎◌, nat_lt, slice_get, slice_set}
-use Rattle.diag_can.specs.declared.frame.Event.{Event}
+use Rattle.diag_can.specs.Event.{Event}
 use Rattle.diag_pdu.specs.declared.step.Step.{Step}
 use Rattle.diag_desk.specs.declared.entry.Entry.{Entry}
 use Rattle.diag_desk.specs.Entries.{asked_by}

@@ -1,7 +1,7 @@
 -- One tester's channel: its port, and the frames that it was sent.
 use Rattle.std.specs.Prelude.{◌≡◌, ℕ, ◌*◌, ◌≤◌, List, [], ◌∷◌, ◌++◌, length, Option, Some, slice_get}
 use Rattle.std.specs.Option.{option_to_list}
-use Rattle.diag_can.specs.declared.frame.Event.{Event}
+use Rattle.diag_can.specs.Event.{Event}
 use Rattle.diag_pdu.specs.declared.setup.LinkSetup.{LinkSetup}
 use Rattle.diag_tp.specs.declared.sent.Sent.{Sent}
 use Rattle.diag_tp.specs.Gives.{gives}

@@ -9,7 +9,7 @@ ghost use Rattle.diag_world.specs.Weaving.{steps_of, turns};
 use crate::laws::{interleaving_law, turns_law};
 use crate::taking::take_turns;
 use crate::world::World;
-use diag_can::Event;
+use diag_can::Log;
 use diag_desk::{Desk, StepFault};
 use diag_setup::Setup;
 use diag_tp::SentFrames;
@@ -29,7 +29,7 @@ pub struct Played {
 ///
 /// # Errors
 /// `JournalFull` where the logs give more steps than a journal has entries, `Memory` where memory is refused.
-pub fn serial(alloc: Global, setup: &Setup, logs: &[Vec<Event>]) -> Result<Played, StepFault>
+pub fn serial(alloc: Global, setup: &Setup, logs: &[Log]) -> Result<Played, StepFault>
     requires { length logs.now ≡ length setup.now.testers }
     ensures played { IfOk result (λ played. let events = map (λ log. log.items) logs.now in
         IsPlay setup.now (turns events) events played.desk (map (λ s. s.items) played.sent.items)) }

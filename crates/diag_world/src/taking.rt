@@ -1,19 +1,19 @@
 //! All logs on one thread, one event of each in turn, at whoever takes events.
 
 ghost use Rattle.std.specs.Prelude.{◌≡◌, ◌≤◌, ◌<◌, ◌∷◌, [], ◌++◌, List, ℕ, Err, OnOk, length, map, drop};
-ghost use Rattle.diag_can.specs.declared.frame.Event.{Event as AnEvent};
+ghost use Rattle.diag_can.specs.Event.{Event as AnEvent};
 ghost use Rattle.diag_desk.specs.Entry.{most_entries};
 ghost use Rattle.diag_setup.specs.Setup.{link_of};
 ghost use Rattle.diag_world.specs.Weaving.{first_of_each, longest, steps_of, turns};
 
-use diag_can::{Event, LentEvent};
+use diag_can::{LentEvent, Log};
 use diag_desk::StepFault;
 use diag_setup::{Setup, TesterId};
 
 /// What takes the testers' events as they come.
 pub trait TakeEvents {
     ghost use Rattle.std.specs.Prelude.{ℕ, List};
-    ghost use Rattle.diag_can.specs.declared.frame.Event.{Event};
+    ghost use Rattle.diag_can.specs.Event.{Event};
     ghost use Rattle.diag_setup.specs.declared.raw.RawSetup.{RawSetup};
 
     /// What it takes the events for.
@@ -52,7 +52,7 @@ pub trait TakeEvents {
 pub fn take_turns<T: TakeEvents>(
     taker: &mut T,
     setup: &Setup,
-    logs: &[Vec<Event>],
+    logs: &[Log],
 ) -> Result<(), StepFault>
     requires logs { length logs.now ≡ length setup.now.testers }
     requires begins { (terms : T.Terms)
@@ -72,7 +72,7 @@ pub fn take_turns<T: TakeEvents>(
 }
 
 /// The length of the longest log: the number of rounds in which each log that hasn't ended gives one event.
-fn longest(logs: &[Vec<Event>]) -> usize
+fn longest(logs: &[Log]) -> usize
     ensures { result ≡ longest (map (λ log. log.items) logs.now) }
 {
     let mut most = 0;
@@ -88,7 +88,7 @@ fn longest(logs: &[Vec<Event>]) -> usize
 fn take_round<T: TakeEvents>(
     taker: &mut T,
     setup: &Setup,
-    logs: &[Vec<Event>],
+    logs: &[Log],
     round: usize,
 ) -> Result<(), StepFault>
     requires logs { length logs.now ≡ length setup.now.testers }
@@ -111,7 +111,7 @@ fn take_round<T: TakeEvents>(
             let Some(who) = setup.who(index) else {
                 unreachable!()
             };
-            taker.take_event(who, &log[round].lent())?;
+            taker.take_event(who, &log.get(round))?;
         }
     }
     Ok(())

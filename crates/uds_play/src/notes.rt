@@ -186,12 +186,6 @@ impl Notes<'_> {
             return Ok(());
         }
         let report = check(rt.alloc(), text.as_slice())?;
-        if report.faults.is_empty() && self.kind == FileKind::Logs {
-            note(
-                rt,
-                "serial and play read logs of classic frames: bus takes a recording with frames of CAN FD",
-            );
-        }
         for finding in report.faults.iter().take(MOST_FAULTS) {
             let config = self.config;
             let line = format!(in rt.alloc(); "{config}: {finding}")?;

@@ -8,7 +8,7 @@ use Rattle.diag_can.specs.Line.{frame_for}
 use Rattle.diag_pdu.specs.Cut.{counted_from}
 use Rattle.diag_can.specs.Reading.{later}
 use Rattle.diag_can.specs.declared.bus_line.BusLine.TheVariants.{Stamped}
-use Rattle.diag_can.specs.declared.frame.Event.{Event}
+use Rattle.diag_can.specs.Event.{Event}
 use Rattle.diag_can.specs.declared.frame.Frame.{Frame}
 use Rattle.diag_setup.specs.declared.raw.RawSetup.{RawSetup}
 use Rattle.diag_ecu.specs.State.{State, opening}

@@ -3,7 +3,7 @@ use Rattle.std.proofs.Common.{◌≡◌, ℕ, List, [], ◌∷◌, ◌++◌, len
 use Rattle.std.proofs.lemmas.List.{length-map, map-append}
 use Rattle.std.proofs.Math.Seq.{drop-append_seam}
 use Rattle.diag_can.specs.Log.{silence}
-use Rattle.diag_can.specs.declared.frame.Event.{Event}
+use Rattle.diag_can.specs.Event.{Event}
 use Rattle.diag_can.specs.declared.log.Timing.TheVariants.{Stamps}
 use Rattle.diag_pdu.specs.declared.step.Step.{Step}
 use Rattle.diag_setup.specs.declared.raw.RawSetup.{RawSetup}

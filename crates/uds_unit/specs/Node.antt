@@ -1,6 +1,6 @@
 -- What the server stands for in the midst of a call, beside what the call has drawn and entered so far.
 use Rattle.std.specs.Prelude.{◌≡◌, ℕ, ◌+◌, OnOk, List, ◌++◌, length, map, Some, Result, slice_get}
-use Rattle.diag_can.specs.declared.frame.Event.{Event}
+use Rattle.diag_can.specs.Event.{Event}
 use Rattle.diag_tp.specs.declared.sent.Sent.{Sent}
 use Rattle.diag_setup.specs.declared.raw.RawSetup.{RawSetup}
 use Rattle.diag_ecu.specs.State.{State}

@@ -2,7 +2,7 @@
 
 ghost use Rattle.std.specs.Prelude.{◌≡◌, ◌≤◌, ◌<◌, ◌-◌, ℕ, List, [], ◌∷◌, ◌++◌, Some, length, map, slice_get, OnOk, OnErr};
 ghost use Rattle.std.specs.List.{flat_map};
-ghost use Rattle.diag_can.specs.declared.frame.Event.{Event as AnEvent};
+ghost use Rattle.diag_can.specs.Event.{Event as AnEvent};
 ghost use Rattle.diag_can.specs.Log.{waited};
 ghost use Rattle.diag_pdu.specs.Cut.{counted_from};
 ghost use Rattle.diag_tp.specs.declared.sent.Sent.{Sent as ASent};
@@ -14,7 +14,7 @@ ghost use Rattle.diag_bus.specs.RequestIds.{AreRequestsOf, IsOwner, functional_t
 use crate::entries::Entries;
 use crate::given::GivenFrame;
 use diag_bus::{Owner, RequestIds};
-use diag_can::{CanId, LentEvent, TickCount};
+use diag_can::{CanId, FrameBytes, LentBytes, LentEvent, TickCount};
 use diag_setup::{Setup, TesterId};
 use diag_tp::SentFrames;
 use diag_world::Server;
@@ -119,8 +119,8 @@ impl Node {
         }
     }
 
-    /// Gives the server a frame, by whose it is.
-    fn give_frame(
+    /// Gives the server a frame of these bytes, by whose it is.
+    fn give_bytes(
         &mut self,
         setup: &Setup,
         owner: Owner,
@@ -135,16 +135,42 @@ impl Node {
         ensures { Passed self.old self.new 0
             (given setup.now id (length setup.now.testers) owner bytes.now) result }
     {
+        if bytes.len() > 8 {
+            return self.give_frame(setup, owner, id, &LentBytes::long(bytes));
+        }
+        let short = FrameBytes::from_slice(bytes);
+        self.give_frame(setup, owner, id, &LentBytes::short(&short))
+    }
+
+    /// Gives the server a frame, by whose it is.
+    fn give_frame(
+        &mut self,
+        setup: &Setup,
+        owner: Owner,
+        id: CanId,
+        bytes: &LentBytes<'_>,
+    ) -> Result<(), AllocError>
+        requires in_setup { length self.old.server.ports ≡ length setup.now.testers }
+        requires lists { length self.old.drawn.items ≡ length setup.now.testers }
+        requires owner { IsOwner setup.now id (length setup.now.testers) owner }
+        requires early { HasTime self.old.server 0 }
+        ensures { Passed self.old self.new 0
+            (given setup.now id (length setup.now.testers) owner bytes.now) result }
+    {
         match owner {
             Owner::Nobody => Ok(()),
-            Owner::Tester(who) => self.give(who, &LentEvent::physical(bytes)),
+            Owner::Tester(who) => self.give(who, &LentEvent::physical(bytes.copy())),
             Owner::Functional => self.give_functional(setup, id, bytes),
         }
     }
 
     /// Gives the server a functional frame: it is for each tester that has this functional identifier, in order.
-    fn give_functional(&mut self, setup: &Setup, id: CanId, bytes: &[u8]) -> Result<(), AllocError>
-        requires fits { length bytes.now ≤ 64 }
+    fn give_functional(
+        &mut self,
+        setup: &Setup,
+        id: CanId,
+        bytes: &LentBytes<'_>,
+    ) -> Result<(), AllocError>
         requires in_setup { length self.old.server.ports ≡ length setup.now.testers }
         requires lists { length self.old.drawn.items ≡ length setup.now.testers }
         requires early { HasTime self.old.server 0 }
@@ -166,9 +192,8 @@ impl Node {
         setup: &Setup,
         who: TesterId,
         id: CanId,
-        bytes: &[u8],
+        bytes: &LentBytes<'_>,
     ) -> Result<(), AllocError>
-        requires fits { length bytes.now ≤ 64 }
         requires known { who ≤ length setup.now.testers }
         requires in_setup { who ≤ length self.old.server.ports }
         requires lists { length self.old.drawn.items ≡ length self.old.server.ports }
@@ -176,7 +201,7 @@ impl Node {
         ensures { Passed self.old self.new 0 (functional_to setup.now id bytes.now who) result }
     {
         if id == setup.ids(who).functional {
-            self.give(who, &LentEvent::functional(bytes))
+            self.give(who, &LentEvent::functional(bytes.copy()))
         } else {
             Ok(())
         }
@@ -198,7 +223,7 @@ impl Node {
         self.pass(setup, ms)?;
         match frame {
             Some(frame) => {
-                self.give_frame(setup, ids.owner(setup, frame.id), frame.id, frame.bytes)
+                self.give_bytes(setup, ids.owner(setup, frame.id), frame.id, frame.bytes)
             }
             None => Ok(()),
         }

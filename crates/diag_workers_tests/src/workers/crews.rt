@@ -1,14 +1,13 @@
 //! Crews of two workers, at doors to no desk.
 
-ghost use Rattle.std.specs.Prelude.{◌≡◌, ◌≤◌, length, map, vec_len, IfOk};
-ghost use Rattle.diag_can.specs.Log.{most_events};
+ghost use Rattle.std.specs.Prelude.{◌≡◌, length, map, IfOk};
 ghost use Rattle.diag_pdu.specs.Cut.{counted_from};
 
 use crate::trouble::{Trouble, holds};
-use crate::workers::given::setup_of_two;
+use crate::workers::given::{events_of, setup_of_two};
 use crate::workers::meeting::Meeting;
 use crate::workers::plays::readers_play;
-use diag_can::{Event, TickCount};
+use diag_can::Log;
 use diag_desk::{Journal, StepFault};
 use diag_gate::Door;
 use diag_pdu::{Message, Step};
@@ -102,11 +101,8 @@ fn lone_doors<'a>(
 }
 
 /// A log of two ticks.
-fn two_ticks(alloc: Global) -> Result<Vec<Event>, Trouble>
-    ensures { IfOk result (λ log. vec_len log ≤ most_events) }
-{
-    let count = TickCount::new(1).ok_or(Trouble::Wrong)?;
-    Ok(Vec::from_array(alloc, [Event::Ticks(count), Event::Ticks(count)])?)
+fn two_ticks(alloc: Global, setup: &Setup) -> Result<Log, Trouble> {
+    events_of(alloc, setup, 0, &["tick", "tick"])
 }
 
 /// What refuses a crew that plays two ticks each, if anything does.
@@ -119,7 +115,7 @@ fn refusal<R: Threads + Sync>(
 ) -> Result<Option<StepFault>, Trouble>
     requires { length setup.now.testers ≡ 2 }
 {
-    let logs = [two_ticks(alloc)?, two_ticks(alloc)?];
+    let logs = [two_ticks(alloc, setup)?, two_ticks(alloc, setup)?];
     let doors = lone_doors(alloc, meeting, left)?;
     Ok(crew(rt, alloc, setup, &logs, doors).err())
 }

@@ -1,10 +1,9 @@
 //! What all tests begin with.
 
-ghost use Rattle.std.specs.Prelude.{◌≡◌, ◌≤◌, length, vec_len, IfOk};
-ghost use Rattle.diag_can.specs.Log.{most_events};
+ghost use Rattle.std.specs.Prelude.{◌≡◌, length, IfOk};
 
 use crate::trouble::Trouble;
-use diag_can::{Event, Timing, read_log};
+use diag_can::{Log, Timing, read_log};
 use diag_desk::{Journal, replay};
 use diag_setup::Setup;
 use diag_stored::two_testers;
@@ -67,9 +66,7 @@ pub(crate) fn events_of(
     setup: &Setup,
     index: usize,
     lines: &[&str],
-) -> Result<Vec<Event>, Trouble>
-    ensures { IfOk result (λ log. vec_len log ≤ most_events) }
-{
+) -> Result<Log, Trouble> {
     let who = setup.who(index).ok_or(Trouble::Wrong)?;
     let text = text_of(alloc, lines)?;
     let log = read_log(alloc, text.as_slice(), &setup.ids(who), Timing::Lines)?;

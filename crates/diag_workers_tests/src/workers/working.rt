@@ -1,14 +1,13 @@
 //! Workers at doors over a lock.
 
 ghost use Rattle.std.specs.Prelude.{◌≤◌, length};
-ghost use Rattle.diag_can.specs.Log.{most_events};
 
 use crate::trouble::{Trouble, holds};
 use crate::workers::given::{
     FIRST_READER, SECOND_READER, events_of, has_first_frames, has_second_frames, is_replayed,
     setup_of_two,
 };
-use diag_can::Event;
+use diag_can::Log;
 use diag_desk::{Desk, Journal, StepFault};
 use diag_gate::LockDoor;
 use diag_setup::{Setup, TesterId};
@@ -16,20 +15,19 @@ use diag_workers::{WorkerRecord, agree, work};
 use std::alloc::Global;
 use std::sync::{Mutex, Wait};
 
-/// What a worker does with these events, at its tester's door over the lock.
+/// What a worker does with this log, at its tester's door over the lock.
 fn at_lock<R: Wait>(
     rt: &R,
     alloc: Global,
     setup: &Setup,
     desk: &Mutex<Desk>,
     who: TesterId,
-    events: &[Event],
+    log: &Log,
 ) -> Result<WorkerRecord, StepFault>
-    requires limit { length events.now ≤ most_events }
-    requires in_setup { who ≤ length setup.now.testers }
+    requires { who ≤ length setup.now.testers }
 {
     let mut door = LockDoor::new(rt, alloc, desk, who);
-    work(alloc, setup, who, events, &mut door)
+    work(alloc, setup, who, log, &mut door)
 }
 
 /// What the worker of one tester does with these lines, at a door over the lock.
@@ -42,8 +40,8 @@ fn worked<R: Wait>(
     lines: &[&str],
 ) -> Result<WorkerRecord, Trouble> {
     let who = setup.who(index).ok_or(Trouble::Wrong)?;
-    let events = events_of(alloc, setup, index, lines)?;
-    Ok(at_lock(rt, alloc, setup, desk, who, events.as_slice())?)
+    let log = events_of(alloc, setup, index, lines)?;
+    Ok(at_lock(rt, alloc, setup, desk, who, &log)?)
 }
 
 /// Whether a record is the whole of a journal, which replays, and has the frames of this reader.

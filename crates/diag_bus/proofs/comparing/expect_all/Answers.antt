@@ -1,5 +1,4 @@
 use Rattle.std.proofs.Common.{◌≡◌, ◌<◌, Some, List, length, map, ap, refl, subst, sym, ◌∙◌, arith}
-use Rattle.std.proofs.lemmas.List.{length-map}
 use Rattle.std.proofs.lemmas.Option.{same_Some, slice_get_read, slice_get-map}
 use Rattle.std.specs.Prelude.{option_map, slice_get}
 use Rattle.diag_tp.specs.SentFrames.{SentList}

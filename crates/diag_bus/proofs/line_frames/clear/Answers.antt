@@ -3,7 +3,6 @@ use Rattle.std.proofs.lemmas.Option.{slice_get-map}
 use Rattle.std.specs.Prelude.{map, slice_set}
 use Rattle.std.specs.Option.{option_map}
 use Rattle.diag_tp.specs.SentFrames.{SentList}
-use Rattle.diag_tp.specs.declared.sent.Sent.{Sent}
 use Rattle.diag_world.proofs.Worlds.{map_cases, set_cases}
 use Rattle.diag_bus.specs.Filled.{AreFilled}
 use Rattle.diag_bus.specs.declared.filled.Filled.{Filled}

@@ -2,7 +2,6 @@ use Rattle.std.proofs.Common.{◌≡◌, ◌<◌, [], refl, subst, sym, ◌∙�
 use Rattle.std.proofs.lemmas.List.{length-set}
 use Rattle.std.proofs.lemmas.Option.{slice_get_within}
 use Rattle.diag_tp.specs.SentFrames.{SentList}
-use Rattle.diag_tp.specs.declared.sent.Sent.{Sent}
 use Rattle.diag_world.proofs.Worlds.{map_cases, set_cases}
 use Rattle.diag_bus.proofs.line_frames.clear_all.Goals as goal
 

@@ -1,7 +1,6 @@
 use Rattle.std.proofs.Common.{◌≡◌, ◌<◌, ℕ, [], Some, length}
 use Rattle.std.specs.Prelude.{slice_get}
 use Rattle.diag_tp.specs.SentFrames.{SentList}
-use Rattle.diag_tp.specs.declared.sent.Sent.{Sent}
 use Rattle.diag_bus.proofs.line_frames.clear_all.Given as goal
 
 abbrev pub invariant-loop-index : goal.invariant-loop-index

@@ -4,7 +4,6 @@ use Rattle.std.proofs.lemmas.Result.{on_ok_weaker}
 use Rattle.std.specs.List.{All, flat_map}
 use Rattle.diag_setup.specs.Rows.{in_order}
 use Rattle.diag_tp.specs.SentFrames.{SentList}
-use Rattle.diag_tp.specs.declared.sent.Sent.{Sent}
 use Rattle.diag_world.specs.Server.{closing_time}
 use Rattle.diag_bus.specs.Text.{gathered, line_of, time_of}
 use Rattle.diag_bus.specs.Drawn.{Drawn}

@@ -1,4 +1,4 @@
-use Rattle.std.proofs.Common.{◌≡◌, ◌+◌, ◌<◌, false, get_or, length, subst, sym, arith}
+use Rattle.std.proofs.Common.{◌≡◌, ◌+◌, false, get_or, subst, sym, arith}
 use Rattle.std.proofs.lemmas.List.Sums.{prefix_len_is}
 use Rattle.hex.specs.Hex.{is_hex_digit}
 use Rattle.diag_can.proofs.line.hex_run.Goals.{then-run-lt16-via-then-run-lt16, then-run-lt16-via-else-run-lt16+then-text-eq16}

@@ -1,5 +1,5 @@
 use Rattle.std.proofs.Common.{◌≡◌, ◌≤◌, ◌++◌, length, replicate}
-use Rattle.diag_can.specs.declared.frame.Event.TheVariants.{Ticks}
+use Rattle.diag_can.specs.Event.{Ticks}
 use Rattle.diag_can.proofs.log.push_time.Given as goal
 
 -- the longest ticks so far stand behind the events that were there

@@ -1,4 +1,4 @@
-use Rattle.std.proofs.Common.{ℕ, ◌+◌, ◌/◌, ◌%◌, List, ◌∷◌, true, ◌∙◌, ap, sym, rules}
+use Rattle.std.proofs.Common.{ℕ, ◌+◌, ◌/◌, ◌%◌, List, ◌∷◌, true, ◌∙◌, ap, sym}
 use Rattle.std.specs.Fmt.{digits}
 use Rattle.diag_can.specs.Reply.{zero_filled}
 use Rattle.diag_can.proofs.Hex.{three_digits, two_digits}

@@ -1,4 +1,4 @@
-use Rattle.std.proofs.Common.{◌≡◌, ℕ, ◌/◌, ◌%◌, ◌^◌, List, ◌∷◌, [], ◌∙◌, ap}
+use Rattle.std.proofs.Common.{ℕ, ◌/◌, ◌%◌, ◌∙◌, ap}
 use Rattle.hex.specs.Hex.{encode_upper}
 use Rattle.diag_can.specs.Reply.{four_bytes}
 use Rattle.diag_can.proofs.Hex.{four_pairs}

@@ -1,4 +1,3 @@
-use Rattle.std.proofs.Common.{sym}
 use Rattle.diag_can.proofs.UsualLines.{ends, says}
 use Rattle.diag_can.proofs.usual.said_from.Goals as goal
 

@@ -1,5 +1,5 @@
 use Rattle.std.proofs.Common.{◌≡◌, ◌≤◌, ◌+◌, ◌∷◌, [], ◌++◌, ap, subst, sym, ◌∙◌, arith}
-use Rattle.diag_can.specs.declared.frame.Event.TheVariants.{Ticks}
+use Rattle.diag_can.specs.Event.{Ticks}
 use Rattle.diag_tp.specs.Moments.{history, last_moment, last_time}
 use Rattle.diag_tp.specs.Wire.{wire}
 use Rattle.diag_tp.specs.Link.{StandsFor}

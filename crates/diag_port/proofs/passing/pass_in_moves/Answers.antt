@@ -1,6 +1,6 @@
 use Rattle.std.proofs.Common.{◌≡◌, ◌+◌, ◌-◌, ◌<◌, ◌≤◌, refl, [], ◌∷◌, ◌++◌, subst, sym, ap, ◌∙◌, append_assoc, arith}
 use Rattle.std.proofs.lemmas.List.{append-nil}
-use Rattle.diag_can.specs.declared.frame.Event.TheVariants.{Ticks}
+use Rattle.diag_can.specs.Event.{Ticks}
 use Rattle.diag_tp.specs.Moments.{moments}
 use Rattle.diag_port.specs.Port.{PortFor, HandedOut, port_of}
 use Rattle.diag_port.proofs.PortLemmas.{no_ticks, port_handed, port_moments}

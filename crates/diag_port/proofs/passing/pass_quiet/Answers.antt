@@ -1,6 +1,6 @@
 use Rattle.std.proofs.Common.{◌≡◌, ◌<◌, ◌+◌, ◌∷◌, [], ◌++◌, ap, subst, sym, ◌∙◌, arith}
 use Rattle.std.proofs.lemmas.List.{append-nil}
-use Rattle.diag_can.specs.declared.frame.Event.TheVariants.{Ticks}
+use Rattle.diag_can.specs.Event.{Ticks}
 use Rattle.diag_tp.specs.Moments.{history, last_time}
 use Rattle.diag_tp.specs.Wire.{wire}
 use Rattle.diag_tp.specs.Link.{StandsFor}

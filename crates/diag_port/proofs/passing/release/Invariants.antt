@@ -1,5 +1,5 @@
 use Rattle.std.proofs.Common.{◌≡◌, ◌≤◌, ◌+◌, ◌++◌, List, length}
-use Rattle.diag_can.specs.declared.frame.Event.{Event as AnEvent}
+use Rattle.diag_can.specs.Event.{Event as AnEvent}
 use Rattle.diag_pdu.specs.declared.setup.LinkSetup.{LinkSetup}
 use Rattle.diag_tp.specs.declared.sent.Sent.{Sent}
 use Rattle.diag_tp.specs.Moments.{last_moment}

@@ -1,8 +1,9 @@
-use Rattle.std.proofs.Common.{◌≡◌, ◌≤◌, ◌+◌, ◌++◌, ◌∷◌, [], List, length, take, drop, ap, sym, subst, ◌∙◌, arith}
+use Rattle.std.proofs.Common.{◌≡◌, ◌≤◌, ◌+◌, ◌++◌, ◌∷◌, [], List, length, take, drop, subst, ◌∙◌, arith}
 use Rattle.std.proofs.lemmas.Grind.{common_steps}
-use Rattle.std.proofs.lemmas.List.{length-take-le, take_more}
-use Rattle.diag_can.specs.declared.frame.Event.{Event}
+use Rattle.std.proofs.lemmas.List.{length-take-le}
+use Rattle.diag_can.specs.Event.{Event}
 use Rattle.diag_desk.specs.Timed.{entries_of}
+use Rattle.diag_desk.proofs.Runs.{take_one}
 use Rattle.diag_port.specs.Late.{pace_of}
 use Rattle.diag_world.specs.Channel.{channel_of}
 use Rattle.diag_workers.specs.Work.{WorkerStands}
@@ -15,32 +16,33 @@ use Rattle.diag_workers.proofs.working.work_keeping.Goals as goal
 pub returns-in_err-take-clause-refused : goal.returns-in_err-take-clause-refused
 returns-in_err-take-clause-refused g c =
     let s = link_of c.args.setup.now c.args.who in
-    let stood = c.loop-event.invariant.stands in
-    let kept : g.D.Door.given c.take.new.door ≡ g.D.Door.given c.loop-event.door = c.in_err-take.ensures.refused in
+    let stood = c.loop-index.invariant.stands in
+    let kept : g.D.Door.given c.take.new.door ≡ g.D.Door.given c.loop-index.door = c.in_err-take.ensures.refused in
     let p = err_from_is_err_and c.from_residual.result c.from_residual.ensures.1 in
     rw p.1 (
       stood.entries,
-      steps_after s (take c.loop-event.event-index c.args.events.now) (drop c.loop-event.event-index c.args.events.now),
+      steps_after s (take c.loop-index.index c.args.log.now.items) (drop c.loop-index.index c.args.log.now.items),
       kept ∙ stood.given,
-      asks_first_by s c.args.who c.args.events.now c.loop-event.event-index (entries_of stood.entries) stood.mine stood.stands.stands.asks,
+      asks_first_by s c.args.who c.args.log.now.items c.loop-index.index (entries_of stood.entries) stood.mine stood.stands.stands.asks,
     )
 
-pub loop-event-preserved : goal.loop-event-preserved
-loop-event-preserved g c =
+pub loop-index-preserved : goal.loop-index-preserved
+loop-index-preserved g c =
     let s = link_of c.args.setup.now c.args.who in
     let pace = pace_of c.args.setup.now in
-    let events = c.args.events.now in
-    let i = c.loop-event.event-index in
-    let event = c.event-item.result in
+    let events = c.args.log.now.items in
+    let i = c.loop-index.index in
+    let event = c.get.result in
     let before = g.D.Door.given c.args.door.now in
-    let tester : g.D.Door.tester c.loop-event.door ≡ c.args.who = c.loop-event.invariant.tester ∙ c.requires.own_door in
-    let few : length (take i events) ≤ 1000000 = omega (arith, length-take-le i events (omega arith)) in
-    let taken = worker_more s pace c.args.who _ _ _ (take i events) event before _ _ _ _ few c.loop-event.invariant.stands tester c.in_ok-take.ensures.took in
-    let next : take (i + 1) events ≡ take i events ++ event ∷ [] =
-    take_more events i event c.loop-event-test.true ∙ ap (λ (e : Event). take i events ++ e ∷ []) (sym c.event-item.is) in
+    let tester : g.D.Door.tester c.loop-index.door ≡ c.args.who = c.loop-index.invariant.tester ∙ c.requires.own_door in
+    let len = c.len-index-end.ensures in
+    let within : i ≤ length events = omega (arith, c.loop-index-test.true, len.count) in
+    let few : length (take i events) ≤ 1000000 = omega (arith, length-take-le i events within, within, len.count, len.few) in
+    let taken = worker_more s pace c.args.who _ _ _ (take i events) event before _ _ _ _ few c.loop-index.invariant.stands tester c.in_ok-take.ensures.took in
+    let next : take (i + 1) events ≡ take i events ++ event ∷ [] = take_one events i event c.get.ensures in
     record {
-      tester = c.in_ok-take.ensures.tester ∙ c.loop-event.invariant.tester;
-      home = c.in_ok-take.ensures.home ∙ c.loop-event.invariant.home;
+      tester = c.in_ok-take.ensures.tester ∙ c.loop-index.invariant.tester;
+      home = c.in_ok-take.ensures.home ∙ c.loop-index.invariant.home;
       rest = c.in_ok-take.ensures.rest;
       stands = rw next taken;
     }
@@ -49,10 +51,10 @@ pub returns-clause-played : goal.returns-clause-played
 returns-clause-played g c =
     let s = link_of c.args.setup.now c.args.who in
     let pace = pace_of c.args.setup.now in
-    let events = c.args.events.now in
+    let events = c.args.log.now.items in
     let before = g.D.Door.given c.args.door.now in
-    let all : take c.loop-event.event-index events ≡ events = grind (arith, common_steps) in
-    let stood = subst (λ (E : List Event). WorkerStands s pace c.args.who (channel_of c.loop-event.worker.channel) E before
-    (g.D.Door.given c.loop-event.door) (g.K.Keep.keeps c.loop-event.worker.entries)) all c.loop-event.invariant.stands in
-    rw c.into_sent.ensures (worker_done s pace c.args.who (channel_of c.loop-event.worker.channel) events before (g.D.Door.given c.loop-event.door)
-    (g.K.Keep.keeps c.loop-event.worker.entries) stood)
+    let all : take c.loop-index.index events ≡ events = grind (arith, common_steps) in
+    let stood = subst (λ (E : List Event). WorkerStands s pace c.args.who (channel_of c.loop-index.worker.channel) E before
+    (g.D.Door.given c.loop-index.door) (g.K.Keep.keeps c.loop-index.worker.entries)) all c.loop-index.invariant.stands in
+    rw c.into_sent.ensures (worker_done s pace c.args.who (channel_of c.loop-index.worker.channel) events before (g.D.Door.given c.loop-index.door)
+    (g.K.Keep.keeps c.loop-index.worker.entries) stood)

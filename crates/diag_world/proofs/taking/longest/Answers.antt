@@ -18,7 +18,7 @@ loop-log-preserved c =
     let inv : c.loop-log.most ≡ longest before = c.loop-log.invariant in
     let next : c.if-len-most.most ≡ longest (map (λ l. l.items) (take (i + 1) logs)) =
     elim c.if-len-most.branch [
-      | then-len-most w ↦ omega (arith, more, inv, w.most-is, w.if-len-most.true, w.len-most.ensures, c.len.ensures, log.ok.0)
-      | else-len-most w ↦ omega (arith, more, inv, w.most-is, w.if-len-most.false, c.len.ensures, log.ok.0)
+      | then-len-most w ↦ omega (arith, more, inv, w.most-is, w.if-len-most.true, w.len-most.ensures.count, c.len.ensures.count)
+      | else-len-most w ↦ omega (arith, more, inv, w.most-is, w.if-len-most.false, c.len.ensures.count)
     ] in
     next

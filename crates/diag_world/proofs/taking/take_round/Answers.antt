@@ -1,4 +1,4 @@
-use Rattle.std.proofs.Common.{◌≡◌, ◌<◌, ◌≤◌, ◌+◌, Some, Err, [], ◌∷◌, ◌++◌, refl, ap, subst, sym, ◌∙◌, length, map, take, drop, arith, append_assoc}
+use Rattle.std.proofs.Common.{◌≡◌, ◌≤◌, ◌+◌, Some, Err, [], ◌∷◌, ◌++◌, refl, ap, subst, sym, ◌∙◌, length, map, take, drop, arith, append_assoc}
 use Rattle.std.proofs.lemmas.List.{append-nil}
 use Rattle.std.proofs.lemmas.Result.{err_from_is_err_and}
 use Rattle.std.proofs.lemmas.Option.{slice_get_read, slice_get-map}
@@ -41,17 +41,16 @@ loop-index-preserved g c = λ terms M h.
     let F = first_of_each 1 (take p (map (drop r) events)) in
     elim c.if-round-len.branch [
       | then-round-len+in-Some+in_ok-take_event w ↦ (
-          let e = w.lent.result in
+          let e = w.get.result in
           let who = w.in-Some.who in
-          let within : r < length log.items = omega (arith, w.if-round-len.true, c.len.ensures, log.ok.0) in
-          let here : slice_get log.items r ≡ Some e = slice_get_read log.items (length log.items) r _ refl within w.index.ensures ∙ ap Some (sym w.lent.ensures) in
+          let here : slice_get log.items r ≡ Some e = w.get.ensures in
           let grown = more ∙ ap (λ x. F ++ x) (round_gives (p + 1) log.items r e here
           ∙ ap (λ n. (n, e) ∷ []) (sym (who_found c.args.setup.now p who w.in-Some.ensures))) in
           subst (λ x. g.T.TakeEvents.took x terms (M ++ first_of_each 1 (take (p + 1) (map (drop r) events)))) (sym w.taker-is)
           (subst (λ x. g.T.TakeEvents.took w.take_event.new.self terms x) (append_assoc M F ((who, e) ∷ []) ∙ ap (λ x. M ++ x) (sym grown))
           (w.in_ok-take_event.ensures.took terms (M ++ F) stands)))
       | else-round-len w ↦ (
-          let past : length log.items ≤ r = omega (arith, w.if-round-len.false, c.len.ensures, log.ok.0) in
+          let past : length log.items ≤ r = omega (arith, w.if-round-len.false, c.len.ensures.count) in
           let same = more ∙ (ap (λ x. F ++ x) (round_ends (p + 1) log.items r past) ∙ append-nil F) in
           subst (λ x. g.T.TakeEvents.took x terms (M ++ first_of_each 1 (take (p + 1) (map (drop r) events)))) (sym w.taker-is)
           (subst (λ x. g.T.TakeEvents.took c.loop-index.taker terms x) (ap (λ x. M ++ x) (sym same)) stands))
@@ -67,12 +66,11 @@ returns-in_err-take_event-clause-full g c = λ is terms M h.
     let p = c.loop-index.index in
     let r = c.args.round in
     let log = c.index-logs-index.result in
-    let e = c.lent.result in
+    let e = c.get.result in
     let who = c.in-Some.who in
     let F = first_of_each 1 (take p (map (drop r) events)) in
     let found : slice_get logs p ≡ Some log = slice_get_read logs (length logs) p log refl c.loop-index-test.true c.index-logs-index.is in
-    let within : r < length log.items = omega (arith, c.if-round-len.true, c.len.ensures, log.ok.0) in
-    let here : slice_get log.items r ≡ Some e = slice_get_read log.items (length log.items) r _ refl within c.index.ensures ∙ ap Some (sym c.lent.ensures) in
+    let here : slice_get log.items r ≡ Some e = c.get.ensures in
     let split = round_splits events r p log.items e (slice_get-map (λ l. l.items) logs p ∙ ap (option_map (λ l. l.items)) found) here in
     let taken = (M ++ F) ++ (who, e) ∷ [] in
     let all = ap (λ x. M ++ x) (split.1 ∙ ap (λ t. (F ++ (t, e) ∷ []) ++ split.0) (sym (who_found c.args.setup.now p who c.in-Some.ensures)))

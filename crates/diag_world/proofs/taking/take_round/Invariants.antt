@@ -1,5 +1,5 @@
 use Rattle.std.proofs.Common.{◌++◌, ℕ, List, map, take, drop}
-use Rattle.diag_can.specs.declared.frame.Event.{Event as AnEvent}
+use Rattle.diag_can.specs.Event.{Event as AnEvent}
 use Rattle.diag_world.specs.Weaving.{first_of_each}
 use Rattle.diag_world.proofs.taking.take_round.Given as goal
 

@@ -1,7 +1,7 @@
 use Rattle.diag_setup.specs.Setup.{known_ids}
 use Rattle.std.proofs.Common.{◌++◌, ℕ, List, length, subst, arith}
 use Rattle.std.specs.List.{flat_map}
-use Rattle.diag_can.specs.declared.frame.Event.{Event}
+use Rattle.diag_can.specs.Event.{Event}
 use Rattle.diag_pdu.specs.Cut.{counted_from}
 use Rattle.diag_world.specs.Server.{each_of}
 use Rattle.diag_bus.specs.Bus.{AreSound}

@@ -4,7 +4,6 @@ use Rattle.std.proofs.lemmas.Result.{on_ok_weaker}
 use Rattle.diag_can.specs.declared.bus_line.BusLine.{BusLine}
 use Rattle.diag_can.specs.declared.bus_line.BusLine.TheVariants.{Empty, Ticks}
 use Rattle.diag_tp.specs.SentFrames.{SentList}
-use Rattle.diag_tp.specs.declared.sent.Sent.{Sent}
 use Rattle.diag_bus.specs.Events.{frame_said}
 use Rattle.diag_bus.specs.Node.{lists_of}
 use Rattle.diag_bus.specs.ResponseIds.{IsResponder}

@@ -1,5 +1,5 @@
 use Rattle.std.proofs.Common.{◌-◌, ◌∷◌, [], length, refl, ap, subst, sym, ◌∙◌, arith}
-use Rattle.diag_can.specs.declared.frame.Event.{Event}
+use Rattle.diag_can.specs.Event.{Event, Physical}
 use Rattle.diag_bus.specs.Node.{Lasts}
 use Rattle.diag_bus.specs.RequestIds.{IsOwner, given}
 use Rattle.diag_bus.specs.declared.request_ids.Owner.{Owner}
@@ -29,7 +29,7 @@ pub returns-in-Tester : goal.returns-in-Tester
 returns-in-Tester g c =
     let who = c.in-Tester.who in
     let now : Lasts c.physical.result 0 = subst (λ (e : Event). Lasts e 0) (sym c.physical.ensures) (λ now. omega arith) in
-    passed_as _ _ refl (ap (λ (e : Event). (who, e) ∷ []) c.physical.ensures
+    passed_as _ _ refl (ap (λ (e : Event). (who, e) ∷ []) (c.physical.ensures ∙ ap Physical c.copy.ensures)
     ∙ ap (λ o. given c.args.setup.now c.args.id (length c.args.setup.now.testers) o c.args.bytes.now) (sym c.in-Tester.is))
     (passed_one _ _ who c.physical.result now c.give.ensures.ok c.give.ensures.kept c.give.ensures.shape c.give.ensures.pace c.give.ensures.sent)
 

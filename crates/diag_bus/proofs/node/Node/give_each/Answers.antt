@@ -1,7 +1,7 @@
 use Rattle.std.proofs.Common.{◌-◌, ap, length, refl, subst, sym, arith}
 use Rattle.std.specs.Prelude.{OnOk, is_some}
 use Rattle.std.proofs.lemmas.Result.{on_ok_weaker}
-use Rattle.diag_can.specs.declared.frame.Event.{Event}
+use Rattle.diag_can.specs.Event.{Event}
 use Rattle.diag_world.specs.Server.{each_of}
 use Rattle.diag_bus.specs.Node.{Gave, Lasts}
 use Rattle.diag_bus.specs.Sink.{StaysFor}

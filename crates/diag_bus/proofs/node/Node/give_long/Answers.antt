@@ -7,5 +7,5 @@ pub returns : goal.returns
 returns g c =
     let setup = c.args.setup.now in
     let n = length setup.testers in
-    passed_as _ _ refl (ap₂ (λ id (bytes : List ℕ). given setup id n c.args.owner bytes) c.id.ensures (c.as_slice.ensures.bytes ∙ c.long_bytes-bytes.ensures))
+    passed_as _ _ refl (ap₂ (λ id (bytes : List ℕ). given setup id n c.args.owner bytes) c.id.ensures (c.long-lent.ensures ∙ c.as_slice.ensures.bytes ∙ c.long_bytes-bytes.ensures))
     c.give_bytes.ensures

@@ -3,7 +3,7 @@ use Rattle.std.proofs.lemmas.Bool.{false≢true}
 use Rattle.std.proofs.lemmas.Result.{err_from_is_err_and}
 use Rattle.std.specs.List.{flat_map}
 use Rattle.std.specs.Prelude.{replicate, ◌/◌, ◌%◌}
-use Rattle.diag_can.specs.declared.frame.Event.TheVariants.{Ticks}
+use Rattle.diag_can.specs.Event.{Ticks}
 use Rattle.diag_world.specs.Server.{each_of}
 use Rattle.diag_bus.proofs.Nodes.{parts_more, rest_more, waited_whole, waited_rest}
 use Rattle.diag_bus.proofs.Paces.{has_left}

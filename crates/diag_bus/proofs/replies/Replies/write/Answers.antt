@@ -1,17 +1,14 @@
-use Rattle.std.proofs.Common.{◌≡◌, ◌≤◌, ◌++◌, List, Some, get_or, length, refl, ap, subst, sym, ◌∙◌, arith}
+use Rattle.std.proofs.Common.{◌≡◌, ◌++◌, Some, get_or, length, refl, ap, subst, sym, ◌∙◌, arith}
 use Rattle.std.proofs.lemmas.List.{append-nil, length-map}
 use Rattle.std.proofs.lemmas.Option.{slice_get-map, slice_get_read}
 use Rattle.std.proofs.lemmas.Result.{on_ok_weaker}
-use Rattle.std.specs.List.{All}
 use Rattle.std.specs.List.Sorted.{IsNonDecreasingBy}
 use Rattle.std.specs.Option.{option_map}
 use Rattle.std.specs.Prelude.{slice_get}
 use Rattle.diag_tp.specs.SentFrames.{SentList}
 use Rattle.diag_tp.specs.declared.sent.Sent.{Sent}
-use Rattle.diag_world.specs.Server.{closing_time}
 use Rattle.diag_bus.specs.Filled.{AreFilled}
 use Rattle.diag_bus.specs.Node.{lists_of}
-use Rattle.diag_bus.specs.Text.{own_text}
 use Rattle.diag_bus.specs.declared.filled.Filled.{Filled}
 use Rattle.diag_bus.specs.declared.filled.Filled.TheVariants.{At}
 use Rattle.diag_bus.proofs.Filling.{none_written, own_written}

@@ -1,10 +1,9 @@
-use Rattle.std.proofs.Common.{[], ◌∙◌, Some, ap, sym, inl, inr, rules}
+use Rattle.std.proofs.Common.{◌∙◌, Some, ap, sym, inl, inr, rules}
 use Rattle.std.proofs.lemmas.Result.{IfErr-weaker, on_ok_weaker}
 use Rattle.diag_can.specs.Line.{known_to}
 use Rattle.diag_can.specs.Log.{without_return}
 use Rattle.diag_can.specs.declared.fault.LogFault.{LogFault}
 use Rattle.diag_can.proofs.Reading.{line_read, next_fault, said_fault, took_said}
-use Rattle.diag_can.proofs.Shorts.{none_classic, says_short}
 use Rattle.diag_can.proofs.UsualLines.{bus_line-says}
 use Rattle.diag_can.proofs.log_reader.LogReader.take_line.Goals as goal
 
@@ -34,7 +33,3 @@ returns-in_ok-self-in-Some-clause-fault c =
       | inl many ↦ next_fault h line c.in_ok-self-in-Some.ensures.room ∙ said_fault c.args.timing c.args.ids.now c.args.self.now.reading _ line _ says many.1 ∙ ap (λ (f : LogFault). Some f) (sym many.0)
       | inr memory ↦ absurd (known memory.0)
     ]) c.take.ensures.err
-
-pub take-requires-clause-short : goal.take-requires-clause-short
-take-requires-clause-short c =
-    says_short [] none_classic (without_return c.args.line.now) c.in-Some.said (bus_line-says [] c.args.line.now c.in-Some.said (search rules))

@@ -1,5 +1,5 @@
 use Rattle.std.proofs.Common.{◌≡◌, ◌<◌, ◌≤◌, ◌+◌, ◌∙◌, ◌++◌, ◌∷◌, [], ℕ, length, ap, sym, arith, subst}
-use Rattle.diag_can.specs.declared.frame.Event.TheVariants.{Ticks}
+use Rattle.diag_can.specs.Event.{Ticks}
 use Rattle.diag_tp.specs.Link.{pending, quiet, quiet_later, StandsFor}
 use Rattle.diag_tp.proofs.Silence.{due_later, is_later, quiet_left, stands_ticks}
 use Rattle.diag_tp.proofs.link.Link.advance.Goals as goal

@@ -8,5 +8,5 @@ pub returns-clause-took : goal.returns-clause-took
 returns-clause-took g c =
     let took = on_ok_weaker c.take.result (λ took. worker_took g.K.Keep.keeps g.D.Door.given (λ a. a.entries.now) (λ a. a.door.now) _ c.take.new.taker
     c.who-who.result (g.D.Door.tester c.args.door.now) (channel_of c.args.self.now.channel) (channel_of c.take.new.self) c.args.event.now c.who-who.ensures
-    (rw c.lent.ensures at took)) c.take.ensures.took in
+    took) c.take.ensures.took in
     search rules

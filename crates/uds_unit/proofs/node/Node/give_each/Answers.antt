@@ -1,6 +1,6 @@
 use Rattle.std.proofs.Common.{length, subst, sym, arith}
 use Rattle.std.specs.Prelude.{OnOk}
-use Rattle.diag_can.specs.declared.frame.Event.{Event}
+use Rattle.diag_can.specs.Event.{Event}
 use Rattle.diag_world.specs.Server.{each_of}
 use Rattle.diag_bus.specs.Node.{Lasts}
 use Rattle.diag_bus.proofs.Paces.{ticks_time}

@@ -16,7 +16,6 @@ give_functional_to-requires c =
     let who = who_found c.args.setup.now c.loop-index.index c.in-Some.who c.in-Some.ensures in
     let within = c.testers-index-end.ensures.same in
     record {
-      fits = c.requires.fits;
       known = omega (arith, who, within, c.loop-index-test.true);
       in_setup = omega (arith, who, within, c.loop-index-test.true, inv.shape.ports, c.requires.in_setup);
       lists = omega (arith, inv.shape.ports, inv.shape.lists, c.requires.in_setup, c.requires.lists);

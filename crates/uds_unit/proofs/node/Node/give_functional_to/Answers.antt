@@ -1,7 +1,6 @@
 use Rattle.std.proofs.Common.{◌≡◌, ◌∷◌, [], refl, ap, subst, sym, ◌∙◌, arith}
 use Rattle.std.proofs.lemmas.Bool.{eq-eqb, eqb-true}
-use Rattle.diag_can.specs.declared.frame.Event.{Event}
-use Rattle.diag_can.specs.declared.frame.Event.TheVariants.{Functional}
+use Rattle.diag_can.specs.Event.{Event, Functional}
 use Rattle.diag_can.specs.declared.frame.Ids.{Ids}
 use Rattle.diag_setup.specs.Setup.{ids_of}
 use Rattle.diag_bus.specs.Node.{Lasts}
@@ -19,5 +18,5 @@ returns-then-eq c =
     let to_it : (who, Functional c.args.bytes.now) ∷ [] ≡ functional_to setup id c.args.bytes.now who =
     rw (eq-eqb id (ids_of setup who).functional asks) refl in
     let now : Lasts c.functional.result 0 = subst (λ (e : Event). Lasts e 0) (sym c.functional.ensures) (λ now. omega arith) in
-    passed_as refl (ap (λ (e : Event). (who, e) ∷ []) c.functional.ensures ∙ to_it)
+    passed_as refl (ap (λ (e : Event). (who, e) ∷ []) (c.functional.ensures ∙ ap Functional c.copy.ensures) ∙ to_it)
     (passed_one who c.functional.result now c.give.ensures.ok c.give.ensures.shape c.give.ensures.pace)

@@ -2,7 +2,7 @@ use Rattle.std.proofs.Common.{◌*◌, Ok, length}
 use Rattle.std.specs.List.{flat_map}
 use Rattle.std.specs.Prelude.{replicate}
 use Rattle.std.specs.declared.alloc.AllocError.{AllocError}
-use Rattle.diag_can.specs.declared.frame.Event.TheVariants.{Ticks}
+use Rattle.diag_can.specs.Event.{Ticks}
 use Rattle.diag_world.specs.Server.{each_of}
 use Rattle.uds_unit.specs.Node.{Passed}
 use Rattle.uds_unit.proofs.node.Node.pass.Given as goal
