@@ -2,9 +2,8 @@
 use Rattle.std.proofs.Common.{◌≡◌, ℕ, List, [], ◌∷◌, ◌++◌, codes, refl, true, Some, Ok, Err}
 use Rattle.hex.proofs.OnLiterals.{hex_on_literals}
 use Rattle.diag_can.specs.declared.fault.LineFault.TheVariants.{BadLine, BadTick}
-use Rattle.diag_can.specs.Event.{Event}
+use Rattle.diag_can.specs.Event.{Event, Physical, Functional, Ticks}
 use Rattle.diag_bus.specs.declared.fault.BusFault.TheVariants.{Line}
-use Rattle.diag_can.specs.Event.{Physical, Functional, Ticks}
 use Rattle.diag_setup.specs.ExampleSetup.{tester, two_testers}
 use Rattle.diag_setup.specs.declared.raw.RawSetup.{RawSetup}
 use Rattle.diag_bus.specs.Events.{bus_events}

@@ -1,14 +1,12 @@
 -- How a node goes on.
 use Rattle.std.proofs.lemmas.Bool.{cases_eq, eq-eqb}
 use Rattle.std.proofs.lemmas.Bool.Decides.{nat_tests}
-use Rattle.std.specs.Prelude.{if◌then◌else◌, ◌/◌, ◌%◌}
+use Rattle.std.specs.Prelude.{if◌then◌else◌, ◌/◌, ◌%◌, ◌==◌, replicate, slice_get, slice_set, IfSome}
 use Rattle.diag_can.specs.Log.{waited}
-use Rattle.diag_can.specs.Event.{Ticks}
+use Rattle.diag_can.specs.Event.{Ticks, Event}
 use Rattle.std.proofs.Common.{◌≡◌, ◌≤◌, ◌<◌, min, None, Bool, ℕ, ◌+◌, false, zero, suc, Option, Some, List, [], ◌∷◌, ◌++◌, length, map, refl, ap, subst, sym, ◌∙◌, append_assoc, arith, inl, inr}
 use Rattle.std.proofs.lemmas.List.{append-nil, length-map, length-set}
-use Rattle.std.specs.Prelude.{◌==◌, replicate, slice_get, slice_set, IfSome}
 use Rattle.std.specs.Option.{option_to_list}
-use Rattle.diag_can.specs.Event.{Event}
 use Rattle.diag_tp.specs.declared.sent.Sent.{Sent}
 use Rattle.diag_pdu.specs.Cut.{counted_from}
 use Rattle.diag_tp.specs.Moments.{last_time}

@@ -5,8 +5,7 @@ use Rattle.std.proofs.lemmas.Option.{none-some}
 use Rattle.std.specs.List.{flat_map, list_any}
 use Rattle.std.specs.Option.{option_to_list}
 use Rattle.std.specs.Prelude.{◌==◌, ◌||◌, if◌then◌else◌, slice_get, unwrap_or}
-use Rattle.diag_can.specs.Event.{Event}
-use Rattle.diag_can.specs.Event.{Physical, Functional}
+use Rattle.diag_can.specs.Event.{Event, Physical, Functional}
 use Rattle.diag_can.specs.declared.frame.Frame.{Frame}
 use Rattle.diag_setup.specs.Rows.{has_key, has_repeat}
 use Rattle.diag_setup.specs.Setup.{asks_by, can_ids, fault_of, faults, functional_of, has_repeated_id, has_repeated_name, id_by, ids_of, itself, nobody}

@@ -10,8 +10,7 @@ use Rattle.diag_can.specs.declared.fault.LineFault.TheVariants.{BadLine, BadTick
 use Rattle.diag_can.specs.declared.fault.LogFault.TheVariants.{Line}
 use Rattle.diag_can.specs.declared.frame.Ids.{Ids}
 use Rattle.diag_can.specs.declared.frame.KnownId.{KnownId}
-use Rattle.diag_can.specs.Event.{Event}
-use Rattle.diag_can.specs.Event.{Physical, Functional, Ticks}
+use Rattle.diag_can.specs.Event.{Event, Physical, Functional, Ticks}
 use Rattle.diag_can.specs.declared.log.Timing.TheVariants.{Lines, Stamps}
 use Rattle.diag_can.specs.Identifier.{extended}
 use Rattle.diag_can.specs.Line.{line_event, line_says}

@@ -5,8 +5,7 @@ use Rattle.std.specs.List.{filter, flat_map}
 use Rattle.std.specs.Prelude.{◌==◌, if◌then◌else◌, slice_get, slice_set}
 use Rattle.diag_can.specs.Log.{waited}
 use Rattle.diag_can.specs.declared.bus_line.BusLine.{BusLine}
-use Rattle.diag_can.specs.Event.{Event}
-use Rattle.diag_can.specs.Event.{Physical}
+use Rattle.diag_can.specs.Event.{Event, Physical}
 use Rattle.diag_can.specs.declared.frame.Frame.{Frame}
 use Rattle.diag_pdu.specs.Cut.{counted_from}
 use Rattle.diag_pdu.specs.declared.setup.LinkSetup.{LinkSetup}

@@ -1,6 +1,6 @@
 -- Reading a journal's text: it begins as the journal's text so far, and a line that stops it is the first at fault.
 use Rattle.std.proofs.Common.{◌≡◌, ℕ, ◌+◌, ◌^◌, ◌<◌, ◌≤◌, true, false, List, [], ◌∷◌, ◌++◌, length, Some, None, refl, sym, ap, ◌∙◌, subst, arith, decimal, append_assoc, append-nil, take, slice_get, slice_index, slice_set, inl, inr, length-append, ltb-true, eq-eqb, ◌==◌}
-use Rattle.std.specs.Prelude.{nat_lt}
+use Rattle.std.specs.Prelude.{nat_lt, Result, Ok, Err, IfOk, IfErr, MatchResult}
 use Rattle.std.specs.List.{list_all}
 use Rattle.std.proofs.lemmas.Bool.{and_parts}
 use Rattle.diag_desk.specs.declared.entry.Entry.{Entry}
@@ -13,7 +13,6 @@ use Rattle.diag_desk.specs.declared.read.JournalFault.TheVariants.{Line, Memory}
 use Rattle.diag_desk.specs.Cut.{cut}
 use Rattle.diag_desk.specs.Clocks.{Tells}
 use Rattle.diag_desk.proofs.EntryLemmas.{entries_more}
-use Rattle.std.specs.Prelude.{Result, Ok, Err, IfOk, IfErr, MatchResult}
 use Rattle.diag_desk.specs.Entry.{Kept, AreEntries, IsJournal, IsEntry}
 use Rattle.diag_desk.specs.Fault.{FaultAt, IsTextOf, OneJournalLaw}
 use Rattle.diag_desk.specs.PartRead.{HasNoNext, PartRead, fault_at}

@@ -1,15 +1,13 @@
 -- Legal runs, one entry longer or shorter.
-use Rattle.std.proofs.Common.{◌≡◌, ℕ, List, [], ◌∷◌, ◌++◌, length, refl, sym, ap, ◌∙◌, subst, arith, ◌+◌, ◌-◌, ◌≤◌, Some, None, take, slice_get}
-use Rattle.std.proofs.Common.{zero, suc}
+use Rattle.std.proofs.Common.{◌≡◌, ℕ, List, [], ◌∷◌, ◌++◌, length, refl, sym, ap, ◌∙◌, subst, arith, ◌+◌, ◌-◌, ◌≤◌, Some, None, take, slice_get, zero, suc}
 use Rattle.std.specs.Prelude.{Result, Ok, Err, IfErr}
 use Rattle.std.proofs.lemmas.List.{take_more}
 use Rattle.std.proofs.lemmas.Option.{slice_get_within, get_or_from_slice_get}
-use Rattle.diag_ecu.specs.State.{opening}
+use Rattle.diag_ecu.specs.State.{opening, State}
 use Rattle.diag_setup.specs.declared.raw.RawSetup.{RawSetup}
 use Rattle.diag_desk.specs.Replay.{AreTesters, DiffersAt, IsLegalFor}
 use Rattle.diag_desk.specs.declared.replaying.ReplayFault.{ReplayFault}
 use Rattle.diag_desk.specs.declared.replaying.ReplayFault.TheVariants.{Differs, Memory}
-use Rattle.diag_ecu.specs.State.{State}
 use Rattle.diag_setup.specs.Setup.{IsSetup}
 use Rattle.diag_desk.specs.Legal.{IsOpening, Legal, after, after_step, reply_to, LegalPrefixLaw}
 use Rattle.diag_desk.specs.declared.entry.Entry.{Entry}

@@ -3,8 +3,7 @@
 ghost use Rattle.std.specs.Prelude.{◌≡◌, ◌≤◌, ◌+◌, ◌++◌, ◌∷◌, [], true, false, drop, slice_get, IfSome, IfNone, IfOk, IsSome, if◌then◌else◌, map, Some, None, length, vec_len, vec_capacity, OnOk, OnErr};
 ghost use Rattle.std.specs.List.{filter, list_any};
 ghost use Rattle.diag_exchange.specs.Taking.{Ended, IsUnchanged, Stands, Took, TookSilently};
-ghost use Rattle.diag_exchange.specs.Streaming.{asked_again, finish, goes_on, hear, hears_it, is_done, may_hear, told};
-ghost use Rattle.diag_exchange.specs.Streaming.{IsLast};
+ghost use Rattle.diag_exchange.specs.Streaming.{asked_again, finish, goes_on, hear, hears_it, is_done, may_hear, told, IsLast};
 ghost use Rattle.diag_exchange.specs.declared.happening.Happening.TheVariants.{Asked, Began, Came, Lost};
 
 use crate::happening::{AskedRequest, Heard, Over, Start};

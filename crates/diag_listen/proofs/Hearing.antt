@@ -4,8 +4,7 @@ use Rattle.std.proofs.lemmas.Bool.Decides.{nat_tests}
 use Rattle.std.proofs.lemmas.List.{append-nil}
 use Rattle.std.specs.Prelude.{if◌then◌else◌, is_some, min, nat_lt, not, option_and_then, ◌&&◌, Result, Ok, Err, OnOk}
 use Rattle.diag_can.specs.Log.{waited}
-use Rattle.diag_can.specs.Event.{Event}
-use Rattle.diag_can.specs.Event.{Physical, Functional, Ticks}
+use Rattle.diag_can.specs.Event.{Event, Physical, Functional, Ticks}
 use Rattle.diag_pdu.specs.Kind.{IsRead, kind, Kind, Single, First, Overflow, Consecutive, FlowControl, Ignored}
 use Rattle.diag_pdu.specs.declared.setup.LinkSetup.{LinkSetup}
 use Rattle.diag_sides.specs.Receiver.{Receiving, ask_of, completed_by, one_tick_later, open_after, ticks_later}

@@ -2,14 +2,14 @@
 use Rattle.diag_can.specs.declared.frame.KnownId.{KnownId}
 use Rattle.std.proofs.Common.{suc, ◌≡◌, ◌⊎◌, ℕ, ◌+◌, ◌-◌, ◌*◌, ◌^◌, ◌<◌, ◌≤◌, ◌==◌, nat_le, nat_lt, Bool, true, false, cond, List, [], ◌∷◌, ◌++◌, length, take, drop, get_or, Option, None, Some, Result, Ok, Err, codes, decimal, inl, inr, refl, sym, ap, subst, ◌∙◌, append_assoc, length-append, arith}
 use Rattle.std.specs.Prelude.{◌&&◌}
-use Rattle.std.specs.List.{after_first, ends_with, list_all, position_or_len, prefix_len}
+use Rattle.std.specs.List.{after_first, ends_with, list_all, position_or_len, prefix_len, fold}
 use Rattle.std.proofs.lemmas.List.{append_cancel_left, take-append-drop}
 use Rattle.std.proofs.Math.Seq.{drop-append-add, take-append-add, drop-append_seam}
 use Rattle.std.proofs.lemmas.Bool.Decides.{nat_tests}
 use Rattle.std.proofs.lemmas.Option.{same_Some}
 use Rattle.std.proofs.lemmas.List.Folds.{length-prefix_len}
 use lib.Pointwise.{pointwise}
-use Rattle.diag_can.specs.Stamp.{behind_name, digits_of, is_digit, stamp_of, ◌>>=◌}
+use Rattle.diag_can.specs.Stamp.{behind_name, digits_of, is_digit, stamp_of, ◌>>=◌, decimal_value}
 use Rattle.diag_can.specs.Line.{is_decimal, is_time, line_says, stamped, stamped_frame, stamped_line, text_frame, tick_count, tick_line as tick_said}
 use Rattle.diag_can.specs.Log.{without_return}
 use Rattle.diag_can.specs.BusLine.{bus_line}
@@ -18,11 +18,9 @@ use Rattle.diag_can.specs.declared.bus_line.BusLine.TheVariants.{Ticks}
 use Rattle.diag_can.specs.declared.fault.LineFault.{LineFault}
 use Rattle.diag_can.specs.declared.fault.LineFault.TheVariants.{BadLine}
 use Rattle.diag_can.specs.declared.frame.Frame.{Frame}
-use Rattle.std.specs.List.{fold}
 use Rattle.std.specs.Int.{IsInRange}
 use Rattle.std.proofs.lemmas.Str.Parse.{FoldsDigits, IsDigitsTest, numerals_by_fold}
 use Rattle.std.proofs.lemmas.Fmt.{digits_decimal, digits_value-decimal, first_decimal, length-decimal-le}
-use Rattle.diag_can.specs.Stamp.{decimal_value}
 use Rattle.diag_can.proofs.TickFronts.{begins}
 use Rattle.diag_bus.proofs.Stamps.{bind_some}
 use Rattle.diag_live.specs.Live.{but_for_moment, is_close, null_stamp, restamped, tick_line}

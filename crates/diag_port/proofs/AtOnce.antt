@@ -4,8 +4,7 @@ use Rattle.std.proofs.lemmas.List.{append-nil}
 use Rattle.std.specs.Prelude.{IsTrue}
 use Rattle.std.specs.List.{flat_map, zip}
 use Rattle.std.specs.Option.{option_to_list}
-use Rattle.diag_can.specs.Event.{Event}
-use Rattle.diag_can.specs.Event.{Physical, Functional, Ticks}
+use Rattle.diag_can.specs.Event.{Event, Physical, Functional, Ticks}
 use Rattle.diag_pdu.specs.declared.step.Step.{Step}
 use Rattle.diag_pdu.specs.declared.setup.LinkSetup.{LinkSetup}
 use Rattle.diag_tp.specs.Gives.{gives}
@@ -13,11 +12,10 @@ use Rattle.diag_tp.specs.Moments.{history, last_moment, last_time, now}
 use Rattle.diag_tp.specs.Link.{is_frame}
 use Rattle.diag_tp.proofs.Moments.{last_time-frame}
 use Rattle.diag_tp.specs.Placing as plain
-use Rattle.diag_tp.specs.Wire.{Placed}
+use Rattle.diag_tp.specs.Wire.{Placed, wire}
 use Rattle.diag_port.specs.declared.pace.Pace.{Pace}
 use Rattle.diag_port.specs.declared.held.Later.{Later}
 use Rattle.diag_port.specs.Late.{Late, AreAskedBy, asked_at, NoneIsDue, held_late, laters, placed_late, released, still}
-use Rattle.diag_tp.specs.Wire.{wire}
 use Rattle.diag_desk.specs.Entries.{replies}
 use Rattle.diag_desk.specs.Timed.{Timed, entries_of}
 use Rattle.diag_port.specs.Laws.{AreAtOnce, AtOnceLaw}

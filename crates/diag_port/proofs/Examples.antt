@@ -1,7 +1,6 @@
 -- Worked examples of replies that go later, computed.
 use Rattle.std.proofs.Common.{◌≡◌, ℕ, false, List, [], ◌∷◌, Some, refl}
-use Rattle.diag_can.specs.Event.{Event}
-use Rattle.diag_can.specs.Event.{Physical, Ticks}
+use Rattle.diag_can.specs.Event.{Event, Physical, Ticks}
 use Rattle.diag_pdu.specs.declared.length.DataLength.TheVariants.{Dl8}
 use Rattle.diag_pdu.specs.declared.setup.LinkSetup.{LinkSetup}
 use Rattle.diag_pdu.specs.Kind.{kind}

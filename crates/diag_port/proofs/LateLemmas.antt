@@ -4,8 +4,7 @@ use Rattle.std.specs.Prelude.{nat_le, nat_lt, if◌then◌else◌}
 use Rattle.std.proofs.lemmas.Bool.Decides.{nat_tests}
 use Rattle.std.proofs.lemmas.Bool.{leb-true, leb-false, le-leb, ltb-true, ltb-false}
 use Rattle.std.proofs.lemmas.List.{append-nil, map-append}
-use Rattle.diag_can.specs.Event.{Event}
-use Rattle.diag_can.specs.Event.{Physical, Functional, Ticks}
+use Rattle.diag_can.specs.Event.{Event, Physical, Functional, Ticks}
 use Rattle.diag_tp.specs.Moments.{now}
 use Rattle.diag_tp.specs.Wire.{Placed}
 use Rattle.diag_port.specs.declared.held.Later.{Later}

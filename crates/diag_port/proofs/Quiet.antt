@@ -1,8 +1,7 @@
 -- Ticks in which a port does nothing.
 use Rattle.std.proofs.Common.{◌≡◌, ◌≤◌, ◌<◌, ℕ, min, ◌+◌, Option, Some, None, List, [], ◌∷◌, ◌++◌, map, length, refl, ap, subst, sym, ◌∙◌, arith}
 use Rattle.std.proofs.lemmas.List.{append-nil}
-use Rattle.diag_can.specs.Event.{Ticks}
-use Rattle.diag_can.specs.Event.{Event}
+use Rattle.diag_can.specs.Event.{Ticks, Event}
 use Rattle.diag_pdu.specs.declared.setup.LinkSetup.{LinkSetup}
 use Rattle.diag_pdu.proofs.Lists.{length-zero}
 use Rattle.diag_tp.specs.declared.sent.Sent.{Sent}

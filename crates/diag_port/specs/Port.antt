@@ -1,8 +1,7 @@
 -- What a port stands for: a tester's events, and the messages of the replies to it, each at the moment of its request.
 use Rattle.std.specs.Prelude.{◌≡◌, ◌≤◌, ℕ, ◌+◌, ◌^◌, List, ◌∷◌, [], ◌++◌, length, min, Option}
 use Rattle.std.specs.List.{All}
-use Rattle.diag_can.specs.Event.{Event}
-use Rattle.diag_can.specs.Event.{Physical, Functional, Ticks}
+use Rattle.diag_can.specs.Event.{Event, Physical, Functional, Ticks}
 use Rattle.diag_pdu.specs.declared.setup.LinkSetup.{LinkSetup}
 use Rattle.diag_tp.specs.declared.sent.Sent.{Sent}
 use Rattle.diag_tp.specs.SentFrames.{SentList, HasRoom}

@@ -12,12 +12,11 @@ use Rattle.diag_bus.proofs.Runs.{run}
 use Rattle.diag_text.specs.Bytes.{Sends, Takes}
 use Rattle.diag_run.specs.Capture.{Followed, StopsReading}
 use Rattle.diag_run.specs.Capturing.{Closes, FollowedFrom, GoesOn, HaltsAtEnd, HaltsIn, Stands, StopsFrom, StopsWithin, fault_of}
-use Rattle.diag_run.specs.Files.{SaysSetup}
+use Rattle.diag_run.specs.Files.{SaysSetup, ConfigEnds}
 use Rattle.diag_run.specs.Wanted.{End, Wanted, wanted}
 use Rattle.diag_run.specs.declared.capture.Capture.{Capture}
 use Rattle.diag_run.specs.declared.capture.CaptureFault.{CaptureFault}
 use Rattle.diag_run.specs.declared.capture.CaptureFault.TheVariants.{Line, Memory, Otherwise, Read, Write}
-use Rattle.diag_run.specs.Files.{ConfigEnds}
 use Rattle.diag_text.specs.declared.fault.RunFault.{RunFault}
 use Rattle.diag_text.specs.declared.fault.RunFault.TheVariants as run_fault
 use Rattle.diag_run.proofs.Pieces.{GoesOn-trans, halts_within, later_within, read_fails, refused_at, stops_at, stops_at_end}

@@ -1,11 +1,9 @@
 -- What requests for seeds and keys keep true.
 use Rattle.std.proofs.Common.{◌≡◌, ℕ, ◌+◌, ◌-◌, ◌%◌, ◌<◌, ◌&&◌, ◌==◌, true, false, cond, List, [], ◌∷◌, length, refl, sym, ◌∙◌, arith, slice_index, slice_set, is_none, is_some, Bool, Option, Some, None, ap}
-use Rattle.std.specs.List.{list_all}
-use Rattle.std.proofs.lemmas.List.{get_or-set_same, get_or-set_other, length-set}
+use Rattle.std.specs.List.{list_all, All}
+use Rattle.std.proofs.lemmas.List.{get_or-set_same, get_or-set_other, length-set, length-map, get_or-replicate}
 use Rattle.std.proofs.lemmas.Bool.{eq-eqb, eqb-true, eqb-false, leb-false, ltb-true, lt-ltb}
 use Rattle.std.specs.Prelude.{find, map, option_and_then, option_map, replicate, slice_get, unwrap_or}
-use Rattle.std.specs.List.{All}
-use Rattle.std.proofs.lemmas.List.{length-map, get_or-replicate}
 use Rattle.std.proofs.lemmas.List.Elements.{All-head, All-tail}
 use Rattle.diag_setup.specs.declared.raw.RawSetup.{RawSetup}
 use Rattle.diag_setup.specs.declared.raw.RawLevel.{RawLevel}

@@ -1,8 +1,7 @@
 -- What ticks and frames give.
 use Rattle.std.proofs.Common.{◌≡◌, ℕ, Bool, List, refl, sym, subst}
 use Rattle.std.specs.Prelude.{Option, Some, None, IsSome, IsTrue}
-use Rattle.diag_can.specs.Event.{Event}
-use Rattle.diag_can.specs.Event.{Physical, Functional, Ticks}
+use Rattle.diag_can.specs.Event.{Event, Physical, Functional, Ticks}
 use Rattle.diag_pdu.specs.declared.setup.LinkSetup.{LinkSetup}
 use Rattle.diag_pdu.specs.declared.step.Step.TheVariants as step
 use Rattle.diag_tp.specs.Gives.{gives, is_request}

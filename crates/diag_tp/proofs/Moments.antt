@@ -4,8 +4,7 @@ use Rattle.std.specs.Prelude.{count_by, IsTrue, if◌then◌else◌}
 use Rattle.std.proofs.lemmas.List.{append-nil, replicate-append-replicate}
 use Rattle.std.proofs.lemmas.List.Folds.{sum_by-replicate}
 use Rattle.std.proofs.lemmas.List.Sums.{sum_by-append, sum_by-cons}
-use Rattle.diag_can.specs.Event.{Event}
-use Rattle.diag_can.specs.Event.{Physical, Functional, Ticks}
+use Rattle.diag_can.specs.Event.{Event, Physical, Functional, Ticks}
 use Rattle.diag_tp.specs.Link.{is_frame}
 use Rattle.diag_tp.specs.Moments.{moments, is_tick, after, history, now, last_time}
 

@@ -3,8 +3,7 @@ use Rattle.std.proofs.Common.{◌≡◌, ℕ, ◌+◌, ◌*◌, ◌/◌, ◌%◌
 use Rattle.std.proofs.lemmas.List.{length-take-le}
 use Rattle.std.specs.Prelude.{Bool, Option, None, IsTrue, ◌==◌, slice_index, sum_by, is_some, if◌then◌else◌}
 use Rattle.std.proofs.lemmas.Bool.Decides.{nat_tests}
-use Rattle.diag_can.specs.Event.{Event}
-use Rattle.diag_can.specs.Event.{Physical, Functional, Ticks}
+use Rattle.diag_can.specs.Event.{Event, Physical, Functional, Ticks}
 use Rattle.diag_pdu.specs.Kind.{Kind, Single, Consecutive, Ignored, kind, single_kind, first_kind, flow_kind, single_only}
 use Rattle.diag_pdu.specs.declared.length.DataLength.{DataLength}
 use Rattle.diag_pdu.specs.Length.{length_of}

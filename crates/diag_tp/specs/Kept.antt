@@ -1,7 +1,6 @@
 -- What a link's sender keeps of the events and answers: how it goes on with an event, and of which histories it is what is left.
 use Rattle.std.specs.Prelude.{◌≡◌, ◌<◌, ◌≤◌, max, map, ℕ, ◌+◌, ◌-◌, List, [], ◌∷◌, length, Option, Some, None}
-use Rattle.diag_can.specs.Event.{Event}
-use Rattle.diag_can.specs.Event.{Physical, Functional, Ticks}
+use Rattle.diag_can.specs.Event.{Event, Physical, Functional, Ticks}
 use Rattle.diag_pdu.specs.Kind.{Kind, Single, First, Overflow, Consecutive, FlowControl, Ignored, kind}
 use Rattle.diag_pdu.specs.declared.setup.LinkSetup.{LinkSetup}
 use Rattle.diag_sides.specs.declared.sending.Phase.TheVariants.{AwaitsFlow, InBlock}

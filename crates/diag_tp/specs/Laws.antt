@@ -1,7 +1,6 @@
 -- Small laws over the definitions, for who goes on from a link's history.
 use Rattle.std.specs.Prelude.{◌≡◌, ◌<◌, ℕ, suc, ◌+◌, ◌-◌, List, [], ◌∷◌, ◌++◌, length, map, Some, None, IsSome, IsTrue, false}
-use Rattle.diag_can.specs.Event.{Event}
-use Rattle.diag_can.specs.Event.{Physical, Ticks}
+use Rattle.diag_can.specs.Event.{Event, Physical, Ticks}
 use Rattle.diag_pdu.specs.declared.setup.LinkSetup.{LinkSetup}
 use Rattle.diag_pdu.specs.declared.step.Step.TheVariants as step
 use Rattle.diag_pdu.specs.Request.{request_of}

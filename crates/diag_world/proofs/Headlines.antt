@@ -9,8 +9,7 @@ use Rattle.diag_tp.specs.declared.sent.Sent.{Sent}
 use Rattle.diag_pdu.specs.declared.step.Step.{Step}
 use Rattle.diag_tp.specs.Gives.{gives, steps}
 use Rattle.diag_desk.specs.declared.entry.Entry.{Entry}
-use Rattle.diag_desk.specs.Entries.{own}
-use Rattle.diag_desk.specs.Entries.{asked, asked_by}
+use Rattle.diag_desk.specs.Entries.{own, asked, asked_by}
 use Rattle.diag_desk.specs.Timed.{own_timed, timed}
 use Rattle.diag_port.specs.Late.{pace_of}
 use Rattle.diag_port.specs.Releasing.{drawn}

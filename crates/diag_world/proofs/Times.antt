@@ -4,8 +4,7 @@ use Rattle.std.proofs.lemmas.List.{append-nil}
 use Rattle.std.proofs.lemmas.List.Sums.{sum_by-append, sum_by-cons}
 use Rattle.std.specs.Prelude.{◌==◌, IsSome, IsTrue, sum_by}
 use Rattle.std.specs.Option.{option_to_list}
-use Rattle.diag_can.specs.Event.{Event}
-use Rattle.diag_can.specs.Event.{Physical, Functional, Ticks}
+use Rattle.diag_can.specs.Event.{Event, Physical, Functional, Ticks}
 use Rattle.diag_pdu.specs.declared.setup.LinkSetup.{LinkSetup}
 use Rattle.diag_pdu.specs.declared.step.Step.{Step}
 use Rattle.diag_pdu.specs.declared.step.Step.TheVariants as step

@@ -3,8 +3,7 @@ use Rattle.std.proofs.Common.{◌≡◌, ◌≢◌, ◌≤◌, ◌<◌, ℕ, zer
 use Rattle.std.proofs.lemmas.Bool.{eqb-true}
 use Rattle.std.proofs.lemmas.List.{append-nil, map-append, length-set}
 use Rattle.std.specs.Prelude.{◌==◌, slice_get, slice_set}
-use Rattle.diag_can.specs.Event.{Event}
-use Rattle.diag_can.specs.Event.{Ticks}
+use Rattle.diag_can.specs.Event.{Event, Ticks}
 use Rattle.diag_pdu.specs.Cut.{counted_from}
 use Rattle.diag_setup.specs.declared.raw.RawSetup.{RawSetup}
 use Rattle.diag_ecu.specs.State.{opening}

@@ -11,8 +11,7 @@ use Rattle.diag_pdu.specs.declared.step.Step.{Step}
 use Rattle.diag_desk.specs.declared.entry.Entry.{Entry}
 use Rattle.diag_pdu.specs.declared.setup.LinkSetup.{LinkSetup}
 use Rattle.diag_tp.specs.Gives.{gives, steps_after}
-use Rattle.diag_desk.specs.Entries.{own}
-use Rattle.diag_desk.specs.Entries.{asked, asked_by}
+use Rattle.diag_desk.specs.Entries.{own, asked, asked_by}
 use Rattle.diag_world.specs.Weaving.{items_of, all_by, steps_of_after, log_at, log_of, until_step, left_of, leftovers, taken_for, weave_after, WeavingLaw}
 use Rattle.diag_world.proofs.Interleavings.{items_of-append, items_of-same, items_of-other}
 

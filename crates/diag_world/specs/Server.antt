@@ -1,8 +1,7 @@
 -- What a server stands for: an interleaving of the testers' events, and the journal of its run. It keeps neither.
 use Rattle.std.specs.Prelude.{◌≡◌, ◌<◌, ◌≤◌, ◌-◌, ◌^◌, ℕ, ◌+◌, ◌*◌, ◌==◌, false, min, List, [], ◌∷◌, ◌++◌, length, map, Option, Some, IfSome, slice_get, slice_set}
 use Rattle.std.specs.Option.{option_map, option_to_list}
-use Rattle.diag_can.specs.Event.{Event}
-use Rattle.diag_can.specs.Event.{Ticks}
+use Rattle.diag_can.specs.Event.{Event, Ticks}
 use Rattle.diag_tp.specs.declared.sent.Sent.{Sent}
 use Rattle.diag_pdu.specs.Cut.{counted_from}
 use Rattle.diag_sides.specs.Quiet.{always}

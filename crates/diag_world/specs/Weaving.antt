@@ -6,8 +6,7 @@ use Rattle.diag_pdu.specs.declared.step.Step.{Step}
 use Rattle.diag_pdu.specs.declared.setup.LinkSetup.{LinkSetup}
 use Rattle.diag_desk.specs.declared.entry.Entry.{Entry}
 use Rattle.diag_tp.specs.Gives.{gives, steps}
-use Rattle.diag_desk.specs.Entries.{own}
-use Rattle.diag_desk.specs.Entries.{asked, asked_by}
+use Rattle.diag_desk.specs.Entries.{own, asked, asked_by}
 
 -- the items of one tester, of items that each stand beside their tester
 abbrev pub items_of : {X : Type 0} → List (ℕ × X) → ℕ → List X
