@@ -26,13 +26,14 @@ install:
 	install -D -m 644 completion/uds_play.bash '$(ROOT)/share/bash-completion/completions/uds_play'; \
 	install -d '$(PACKAGE)'; \
 	install -m 644 python/uds_unit/*.py python/uds_unit/py.typed '$(PACKAGE)'; \
-	install -m 644 "$$2" '$(PACKAGE)/libuds_unit.so'
+	install -m 644 "$$2" '$(PACKAGE)/libuds_unit.so'; \
+	$(PYTHON) python/wheel_of_unit.py '$(DESTDIR)$(PYTHONDIR)' || echo 'without what tells pip and pytest of the Python package: that wants Python 3.11 or later'
 	@test -n '$(DESTDIR)' || ldconfig 2> /dev/null || true
 	@echo 'installed under $(ROOT)'
 
 uninstall:
 	rm -f '$(ROOT)/bin/uds_play' '$(ROOT)/lib/libuds_unit.so.2' '$(ROOT)/lib/libuds_unit.so' '$(ROOT)/include/uds_unit.h'
 	rm -f '$(ROOT)/lib/pkgconfig/uds_unit.pc' '$(ROOT)/share/man/man1/uds_play.1' '$(ROOT)/share/bash-completion/completions/uds_play'
-	rm -rf '$(PACKAGE)'
+	rm -rf '$(PACKAGE)' '$(PACKAGE)'-*.dist-info
 
 .PHONY: all install uninstall

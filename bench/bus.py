@@ -14,7 +14,7 @@ benchmark and no test.
 For each run of the first three: lines of the capture per second, of three runs the quickest. The time of a line should
 be no more than `serial` takes, and of `compare` no more than twice that of `verify`, which it isn't yet; the memory
 the same for both lengths. The lines are those of bench/runs.py, the testers' turns of twelve lines one behind the other. The program is
-built first where that is needed.
+that of `./uds_play`.
 """
 import re
 import subprocess
@@ -23,7 +23,7 @@ import tempfile
 import time
 
 sys.dont_write_bytecode = True
-from runs import NAMES, PROGRAM, TOP, peak_memory, setup, stamped, turn
+from runs import NAMES, peak_memory, program, setup, stamped, turn
 
 # as many lines as make a journal that `serial` can hold, which gives each tester's ticks an entry of their own
 LINES = 250_000
@@ -53,7 +53,7 @@ def seconds(words):
     runs = []
     for _ in range(3):
         begun = time.monotonic()
-        ran = subprocess.run([PROGRAM, "--quiet", *words], stdout=subprocess.DEVNULL, check=False)
+        ran = subprocess.run([program(), "--quiet", *words], stdout=subprocess.DEVNULL, check=False)
         runs.append(time.monotonic() - begun)
         if ran.returncode:
             sys.exit(f"bus: {' '.join(words)} ended with status {ran.returncode}")
@@ -89,7 +89,7 @@ def moment_of(line):
 def recording(room, config, testers):
     """Writes what was asked and what `bus` answers to it, in the order of the milliseconds."""
     whole = write(f"{room}/asked", asked(testers))
-    answers = subprocess.run([PROGRAM, "bus", config, whole], stdout=subprocess.PIPE, check=True).stdout.decode()
+    answers = subprocess.run([program(), "bus", config, whole], stdout=subprocess.PIPE, check=True).stdout.decode()
     lines = [*asked(testers), *answers.splitlines(True)]
     return write(f"{room}/recording", sorted(lines, key=moment_of)), len(lines)
 
@@ -111,7 +111,7 @@ def feed(child, lines):
 
 
 def measure_memory(config, words, lines):
-    child = subprocess.Popen([PROGRAM, "--quiet", *words, config], stdin=subprocess.PIPE, stdout=subprocess.DEVNULL, bufsize=1 << 16)
+    child = subprocess.Popen([program(), "--quiet", *words, config], stdin=subprocess.PIPE, stdout=subprocess.DEVNULL, bufsize=1 << 16)
     feed(child, capture(8, lines))
     peak = peak_memory(child)
     child.stdin.close()
@@ -125,7 +125,6 @@ def main():
     wanted = sys.argv[1:]
     if wanted not in (["one"], ["eight"], ["verify"], ["memory"]):
         sys.exit(__doc__)
-    subprocess.run([f"{TOP}/uds_play", "--help"], check=True, stdout=subprocess.DEVNULL)
     with tempfile.TemporaryDirectory() as room:
         if wanted == ["memory"]:
             config = write(f"{room}/setup.toml", setup(8))

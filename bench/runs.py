@@ -5,12 +5,13 @@
     bench/runs.py play      `play` beside `serial`, for one, two and eight testers' logs of 1,000,000 lines in all
 
 For each run: lines per second, the peak memory of the process, and that memory by line. The time of a line should stay the same as the
-log grows, and the memory below 300 bytes a line. Each run is made three times and the quickest counts. The program is
-built first where that is needed.
+log grows, and the memory below 300 bytes a line. Each run is made three times and the quickest counts. The program is that
+of `./uds_play`. Notes are left out (`--quiet`).
 
 A log is a mixed one: of twelve lines, three are of other identifiers, two are ticks, and the rest are TesterPresent, a read that
 is answered in one frame, a read of the identification with its flow control, a write in two frames, and a functional request.
 """
+import functools
 import os
 import re
 import subprocess
@@ -19,8 +20,15 @@ import tempfile
 import time
 
 TOP = os.path.dirname(os.path.dirname(os.path.abspath(__file__)))
-PROGRAM = f"{TOP}/crates/uds_play/out/uds_play"
 NAMES = "ABCDEFGH"
+
+
+@functools.cache
+def program():
+    """The path of the executable that `./uds_play` runs, which is proved and built first where none is there."""
+    subprocess.run([f"{TOP}/uds_play", "--help"], check=True, stdout=subprocess.DEVNULL)
+    told = subprocess.run([f"{TOP}/uds_play", "--origin"], check=True, capture_output=True, text=True).stdout
+    return f"{TOP}/{told.partition(':')[0]}"
 
 
 def setup(testers):
@@ -75,7 +83,7 @@ def watched(words, each=0.001, out=subprocess.DEVNULL, well=(0,)):
 
 def run(words):
     """Returns the seconds and the peak memory in KiB of the quickest of three runs."""
-    return min(watched([PROGRAM, *words]) for _ in range(3))
+    return min(watched([program(), "--quiet", *words]) for _ in range(3))
 
 
 def measure(room, command, testers, lines):
@@ -95,7 +103,6 @@ def main():
     wanted = sys.argv[1:]
     if wanted not in (["serial"], ["play"]):
         sys.exit(__doc__)
-    subprocess.run([f"{TOP}/uds_play", "--help"], check=True, stdout=subprocess.DEVNULL)
     with tempfile.TemporaryDirectory() as room:
         if wanted == ["serial"]:
             for lines in (62_500, 250_000, 1_000_000):

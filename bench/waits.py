@@ -1,7 +1,7 @@
 #!/usr/bin/env python3
 """Where a program reads back in one piece what it has just written in several. A benchmark and no test.
 
-    bench/waits.py                         the built program: how many such reads a line, by workload
+    bench/waits.py                         that of `./uds_play`: how many such reads a line, by workload
     bench/waits.py --program P             another executable
     bench/waits.py --only WORD ..          the workloads with such a word in their names
     bench/waits.py --sites N               the N functions in which most of them stand, too
@@ -90,12 +90,12 @@ def measure(room, program, work):
 
 def main():
     options = argparse.ArgumentParser(description=__doc__, formatter_class=argparse.RawDescriptionHelpFormatter)
-    options.add_argument("--program", default=module.PROGRAM)
+    options.add_argument("--program")
     options.add_argument("--only", nargs="+", default=[""])
     options.add_argument("--sites", type=int, default=0)
     options.add_argument("--seed", type=int, default=1)
     given = options.parse_args()
-    program = os.path.abspath(given.program)
+    program = os.path.abspath(given.program or module.program())
     print("| workload | waits a line |\n|---|---|", flush=True)
     with tempfile.TemporaryDirectory() as room:
         for name, work in module.workloads(given.seed).items():

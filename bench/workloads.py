@@ -1,7 +1,7 @@
 #!/usr/bin/env python3
 """What a line costs by the kind of traffic. A benchmark and no test.
 
-    bench/workloads.py                      the built program
+    bench/workloads.py                      that of `./uds_play`
     bench/workloads.py BEFORE AFTER         two executables of it, side by side in one run
     bench/workloads.py --only WORD ..       the workloads with such a word in their names
     bench/workloads.py --lines N            N lines a workload, where it isn't 200,000
@@ -11,8 +11,7 @@ It prints a table in Markdown, a row for each workload: lines a second (the quic
 executables take turns), the instructions of the program for a line more, by valgrind's callgrind where that is installed
 (they are the same in each run, and don't feel what else the machine does), and the most memory of the process in KiB
 (of five runs, each looked at five times a millisecond). Where two executables are given it is also checked that they
-write the same bytes. Notes are left out (`--quiet`), for behind a run they look at the first MiB of a file again. The
-program is built first where none is given.
+write the same bytes. Notes are left out (`--quiet`), for behind a run they look at the first MiB of a file again.
 """
 import argparse
 import os
@@ -26,7 +25,7 @@ import time
 
 sys.dont_write_bytecode = True
 from bus import moment_of
-from runs import NAMES, PROGRAM, TOP, setup, stamped, turn, watched
+from runs import NAMES, program, setup, stamped, turn, watched
 
 # the lines of the two short runs whose difference tells the instructions of a line
 SHORT = 20_000
@@ -249,9 +248,7 @@ def main():
     options.add_argument("--lines", type=int, default=200_000)
     options.add_argument("--seed", type=int, default=1)
     given = options.parse_args()
-    if not given.programs:
-        subprocess.run([f"{TOP}/uds_play", "--help"], check=True, stdout=subprocess.DEVNULL)
-    programs = [os.path.abspath(it) for it in given.programs or [PROGRAM]]
+    programs = [os.path.abspath(it) for it in given.programs or [program()]]
     kinds = [f"{kind}{which}" for kind in ("lines a second", "instructions a line", "KiB") for which in ([""] if len(programs) == 1 else [" before", " after"])]
     print(f"| workload | {' | '.join(kinds)} |\n|---|{'---|' * len(kinds)}", flush=True)
     with tempfile.TemporaryDirectory() as room:

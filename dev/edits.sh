@@ -2,27 +2,38 @@
 # Tries the wrong edits that stand outside the gate, those of crates/NAME/edits/: the prover must refuse each. Run it for a
 # crate whose contracts, definitions or proofs you changed, and look at what it says of each edit.
 # Usage: dev/edits.sh [CRATE..]     these crates, or all that have such edits
-# Works on a copy in which they stand under must-fail/, by `rt ci CRATE`: what an earlier `rt ci` here proved isn't proved again,
-# and an edit that was refused isn't tried again where nothing changed.
+# Works by `rt ci` on a copy of these crates and of those below them, in which these edits alone stand under must-fail/. What an
+# earlier run proved isn't proved again where the kit keeps it.
 # The last line is 'N passed, M failed'; the status is 0 where M is 0.
 set -uo pipefail
 cd "$(dirname "$0")/.." || exit 2
 for crate in "$@"; do
   [ -d "crates/$crate/edits" ] || { echo "edits: crates/$crate/edits isn't there" >&2; exit 2; }
 done
+crates=("$@")
+if [ $# = 0 ]; then
+  for folder in crates/*/edits/; do crates+=("$(basename "$(dirname "$folder")")"); done
+fi
+
+# These crates and those below them, top down, a line each.
+with_those_below() {
+  tac crates.txt | awk -F: -v names="$*" 'BEGIN { n = split(names, given, " "); for (i = 1; i <= n; i++) needed[given[i]] }
+    /^#/ { next }
+    { split($1, head, " ") }
+    head[1] in needed { print head[1]; n = split($2, below, " "); for (i = 1; i <= n; i++) needed[below[i]] }'
+}
+
 copy=$(mktemp -d)
 trap 'rm -rf "$copy"' EXIT
-tar -c --exclude=out --exclude=must-fail crates crates.txt HANDLES | tar -x -C "$copy" && git init -q "$copy" || exit 2
-crates=()
-for folder in "$copy"/crates/*/edits/; do
-  crate=$(basename "$(dirname "$folder")")
-  if [ $# = 0 ] || [[ " $* " = *" $crate "* ]]; then
-    mv "$folder" "${folder%edits/}must-fail"
-    crates+=("$crate")
-  fi
-done
+mkdir "$copy/crates" && cp HANDLES "$copy" && git init -q "$copy" || exit 2
+mapfile -t needed < <(with_those_below "${crates[@]}")
+for crate in "${needed[@]}"; do
+  tar -c --exclude=out --exclude=must-fail "crates/$crate" | tar -x -C "$copy" || exit 2
+  grep -E "^$crate( [^:]*)?:" crates.txt
+done | tac > "$copy/crates.txt"
+for crate in "${crates[@]}"; do mv "$copy/crates/$crate/edits" "$copy/crates/$crate/must-fail"; done
 
-said=$(cd "$copy" && rt ci "${crates[@]}" 2>&1)
+said=$(cd "$copy" && rt ci 2>&1)
 status=$?
 if [ "$status" = 0 ]; then grep 'must-fail' <<< "$said"; else echo "$said"; fi
 wanted=$(find "$copy"/crates -path '*/must-fail/*.edit' | wc -l)

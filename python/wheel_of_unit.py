@@ -1,8 +1,11 @@
 """Makes the wheel for `pip install ./python` (PEP 517), with the shared library that was built of the sources beside it, or
-that release/ has of them. It wants neither a compiler nor another package, and so no network."""
+that release/ has of them. It wants neither a compiler nor another package, and so no network.
+
+    python/wheel_of_unit.py FOLDER     puts beside a package that `make install` put into the folder what tells pip and pytest of it"""
 import base64
 import hashlib
 import subprocess
+import sys
 import tomllib
 import zipfile
 from pathlib import Path
@@ -43,10 +46,15 @@ def entry_points(about: dict[str, Any]) -> str:
     return "\n".join("\n".join([f"[{group}]", *(f"{name} = {at}" for name, at in points.items()), ""]) for group, points in groups.items())
 
 
+def info(about: dict[str, Any]) -> str:
+    """The folder of what tells of the package."""
+    return f"{about['name']}-{about['version']}.dist-info"
+
+
 def files(about: dict[str, Any]) -> dict[str, bytes]:
     """What the wheel has, by its path there."""
     package = [it for it in sorted((HERE / "uds_unit").iterdir()) if it.suffix == ".py" or it.name == "py.typed"]
-    told = f"{about['name']}-{about['version']}.dist-info"
+    told = info(about)
     return {
         **{f"uds_unit/{it.name}": it.read_bytes() for it in package},
         f"uds_unit/{LIBRARY}": library().read_bytes(),
@@ -58,7 +66,7 @@ def files(about: dict[str, Any]) -> dict[str, bytes]:
 
 def build_wheel(wheel_directory: str, config_settings: Any = None, metadata_directory: Any = None) -> str:
     about = project()
-    has, record = files(about), f"{about['name']}-{about['version']}.dist-info/RECORD"
+    has, record = files(about), f"{info(about)}/RECORD"
     sums = {path: base64.urlsafe_b64encode(hashlib.sha256(text).digest()).decode().rstrip("=") for path, text in has.items()}
     lines = [f"{path},sha256={sums[path]},{len(text)}\n" for path, text in has.items()] + [f"{record},,\n"]
     name = f"{about['name']}-{about['version']}-{TAG}.whl"
@@ -70,3 +78,15 @@ def build_wheel(wheel_directory: str, config_settings: Any = None, metadata_dire
 
 def build_sdist(sdist_directory: str, config_settings: Any = None) -> str:
     raise NotImplementedError("the sources are the repository")
+
+
+def tell_of_package(folder: str) -> None:
+    about = project()
+    at = Path(folder) / info(about)
+    at.mkdir(exist_ok=True)
+    for name, text in {"METADATA": metadata(about), "entry_points.txt": entry_points(about), "INSTALLER": "make\n"}.items():
+        (at / name).write_text(text)
+
+
+if __name__ == "__main__":
+    tell_of_package(sys.argv[1])

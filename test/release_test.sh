@@ -135,7 +135,19 @@ printf 'x' | dd of="$copy/release/libuds_unit.so" bs=1 seek=100 conv=notrunc 2> 
 unlike "a library with one byte changed"
 again
 sed -i 's/^kit .*/kit another/' "$copy/release/SUMS"
-unlike "a stamp of another kit" gate
+unlike "a stamp of a kit with another logic" gate
+again
+# a stamp of another kit of this logic: the same bytes are well, others are told and passed over, but not other sums
+sed -i 's/^kit [^ ]*/kit another-kit/' "$copy/release/SUMS"
+put_built
+ran "${with_kit[@]}" tools/release.sh --check
+holds "what another kit of the same logic made alike is well" 0 'release: uds_play is what was built'
+printf 'x' | dd of="$copy/crates/uds_play/out/uds_play" bs=1 seek=100 conv=notrunc 2> /dev/null
+ran "${with_kit[@]}" tools/release.sh --check
+holds "of what it made otherwise a line tells" 0 'makes other bytes: not compared'
+forget_built
+printf 'x' | dd of="$copy/release/uds_play" bs=1 seek=100 conv=notrunc 2> /dev/null
+unlike "a program of another kit with one byte changed"
 again
 sed -i "s/^sources .*/sources $(printf '%064d' 0)/" "$copy/release/SUMS"
 unlike "a stamp of other sources"
@@ -190,6 +202,12 @@ with uds_unit.Unit('demo/setup.toml') as unit:
 assert uds_unit.__version__ == '$version', uds_unit.__version__
 assert uds_unit.library.load()._name.startswith('$room/$where'), uds_unit.library.load()._name"
   holds "its package runs, with its own library, and has the program's version" 0
+  ran "$@" -c "
+from importlib.metadata import distribution
+it = distribution('uds_unit')
+assert it.version == '$version', it.version
+assert [(each.group, each.value) for each in it.entry_points if each.group == 'pytest11'] == [('pytest11', 'uds_unit.pytest_plugin')]"
+  holds "what is installed tells pytest of its plugin" 0
 }
 
 # make install, from release/

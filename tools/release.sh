@@ -4,7 +4,8 @@
 # Usage: tools/release.sh               puts both into release/, and makes the tarball: what is in out/ where no source is newer,
 #                                       else it is proved and built first
 #        tools/release.sh --check       the gate's part: whether release/ has, byte for byte, what was built here just now, of
-#                                       these sources with this kit; without release/ a line says so. The last line is
+#                                       these sources with this kit. Where it is of another kit with the same logic, other
+#                                       bytes are told and passed over; so is that there is no release/. The last line is
 #                                       'N passed, M failed'
 #        tools/release.sh --is-here     whether release/SUMS tells these very sources, and each file has its sum; for the launcher
 #        tools/release.sh --sources     the SHA-256 over all that the build and the proofs read
@@ -114,18 +115,31 @@ holds() {
   if "$@"; then good "$what"; else bad "not so: $what"; fi
 }
 
+# The logic of a kit, by its line: programs that are proved by one such kit are by each.
+logic_of() { echo "${1#* }"; }
+
+# is_built NAME FILE: counts whether release/ has the file that was built here; where SUMS tells another kit, whose compiler
+# may make other bytes, a line tells of these
+is_built() {
+  if [ "$(told kit)" = "$(rt version)" ] || [ ! -f "$2" ] || cmp -s "$release/$1" "$2"; then
+    holds "$1 is what was built" cmp -s "$release/$1" "$2"
+  else
+    echo "release: $1 is of $(told kit), and $(rt version) makes other bytes: not compared"
+  fi
+}
+
 check() {
   if [ ! -e "$release" ]; then
     echo "release: there is no release/ here: nothing to compare, passed over"
     echo "0 passed, 0 failed"
     return 0
   fi
-  holds "SUMS tells this kit" [ "$(told kit)" = "$(rt version)" ]
+  holds "SUMS tells this kit, or one of the same logic" [ "$(logic_of "$(told kit)")" = "$(logic_of "$(rt version)")" ]
   holds "SUMS tells these sources" [ "$(told sources)" = "$(sources)" ]
   holds "SUMS has four lines and no other" [ "$(wc -l < "$release/SUMS")" = 4 ]
   holds "what was built is in out/" [ -f "$program" -a -f "$library" ]
-  holds "uds_play is what was built" cmp -s "$release/uds_play" "$program"
-  holds "libuds_unit.so is what was built" cmp -s "$release/libuds_unit.so" "$library"
+  is_built uds_play "$program"
+  is_built libuds_unit.so "$library"
   holds "uds_play has its sum" [ "$(told uds_play)" = "$(sum_of "$release/uds_play")" ]
   holds "libuds_unit.so has its sum" [ "$(told libuds_unit.so)" = "$(sum_of "$release/libuds_unit.so")" ]
   holds "release/ has nothing else" [ "$(cd "$release" && echo *)" = "SUMS libuds_unit.so uds_play" ]

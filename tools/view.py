@@ -6,7 +6,8 @@
 
 RUN is what `serial`, `play`, `bus` or `bus --journal` wrote. The frames and the journal of one run may stand in two
 files, as `bus` writes them; without a journal the messages of the frames are shown. Of what `compare` wrote the page has
-the recorded unit and the server side by side. `-` is standard input.
+the recorded unit and the server side by side. `-` is standard input. The page's title is the names of the files, or
+what `--title` says.
 """
 import argparse
 import html
@@ -313,10 +314,11 @@ def main(given=None):
     """Runs the tool by these words, or by those of the command line; returns its status."""
     words = CommandLine(description=__doc__, formatter_class=argparse.RawDescriptionHelpFormatter)
     words.add_argument("--text", action="store_true", help="the journal in words, in place of the page")
+    words.add_argument("--title", metavar="TEXT", help="the page's title, where it isn't the names of the files")
     words.add_argument("setup", metavar="SETUP")
     words.add_argument("run", metavar="RUN", nargs="+")
     given = words.parse_args(given)
-    title = " ".join(map(os.path.basename, given.run))
+    title = given.title or " ".join("standard input" if it == "-" else os.path.basename(it) for it in given.run)
     try:
         setup = read_setup(read(given.setup))
         texts = [(it, read(it)) for it in given.run]

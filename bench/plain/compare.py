@@ -1,7 +1,7 @@
 #!/usr/bin/env python3
 """What a line costs the proved program, and its plain twin. A benchmark and no test.
 
-    bench/plain/compare.py                         the built program, and the twin, which is built first
+    bench/plain/compare.py                         that of `./uds_play`, and the twin, which is built first
     bench/plain/compare.py --program P --plain Q   other executables
     bench/plain/compare.py --only WORD ..          the workloads with such a word in their names
     bench/plain/compare.py --lines N               N lines a workload, where it isn't 100,000, for time, memory and bytes
@@ -133,7 +133,7 @@ def main():
         row("workload", *kinds)
         print(f"|---|{'---|' * len(kinds)}", flush=True)
     with tempfile.TemporaryDirectory() as room:
-        programs = [os.path.abspath(it) for it in (given.program or module.PROGRAM, given.plain or built(room))]
+        programs = [os.path.abspath(it) for it in (given.program or module.program(), given.plain or built(room))]
         for name, work in works.items():
             words = Words(room, programs[0], work, given.lines)
             same += check_bytes(name, programs, words.words)

@@ -5,9 +5,8 @@ from typing import Callable, NamedTuple, Optional
 
 from learn_judge import Exchange
 from learn_setup import Code, Did, Key, Level, Routine, Seen, Unit, between
+from uds_names import IN_SESSION
 
-# services that want a session other than the default one
-IN_SESSION = (0x27, 0x2E, 0x31, 0x85)
 # limits of a setup
 MOST_VALUE, MOST_RESULT, MOST_SEED = 255, 32, 255
 GREATEST_CODE, GREATEST_LEVEL = 0xFFFFFE, 65

@@ -33,6 +33,8 @@ SERVICES = {
     0x3E: Service("TesterPresent", {0: "zeroSubFunction"}),
     0x85: Service("ControlDTCSetting", {1: "on", 2: "off"}),
 }
+# those that want a session other than the default one
+IN_SESSION = (0x27, 0x2E, 0x31, 0x85)
 # services that a tester may ask for and the unit hasn't
 OTHERS = {
     0x23: "ReadMemoryByAddress",

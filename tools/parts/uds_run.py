@@ -7,7 +7,7 @@ import sys
 from dataclasses import dataclass, field
 
 sys.path.append(os.path.join(os.path.dirname(os.path.abspath(__file__)), "..", "..", "python"))
-from uds_names import SERVICES
+from uds_names import IN_SESSION, SERVICES
 from uds_rules import rows_of, times_of
 from uds_unit import toml
 
@@ -322,7 +322,7 @@ class Session:
         """Whether a functional request without a reply was refused (0x11, 0x12, 0x31, 0x7F): else its bit 7 asked for
         none."""
         request, sid = entry.request, entry.request[0]
-        if sid in (0x27, 0x2E, 0x31, 0x85) and entry.place != self.holder:
+        if sid in IN_SESSION and entry.place != self.holder:
             return True
         if len(request) < 2 or not request[1] & 0x80 or request[1] & 0x7F not in self.subs(sid):
             return True

@@ -1,5 +1,5 @@
 -- A line taken by each tester.
-use Rattle.std.proofs.Common.{◌≡◌, ◌≤◌, ◌<◌, inl, inr, ℕ, zero, suc, ◌+◌, Bool, true, false, Option, Some, None, List, [], ◌∷◌, ◌++◌, length, map, refl, ap, ap₂, subst, sym, ◌∙◌, append_assoc, arith}
+use Rattle.std.proofs.Common.{◌≡◌, ◌≤◌, ◌<◌, inl, inr, ℕ, zero, suc, ◌+◌, Bool, true, false, Option, Some, None, List, [], ◌∷◌, ◌++◌, map, refl, ap, ap₂, subst, sym, ◌∙◌, append_assoc, arith}
 use Rattle.std.proofs.lemmas.List.{append-nil, map-append}
 use Rattle.std.specs.List.{filter, flat_map}
 use Rattle.std.specs.Prelude.{◌==◌, if◌then◌else◌, slice_get, slice_set}
@@ -29,9 +29,9 @@ use Rattle.diag_judge.specs.declared.tester.Tester.{Tester}
 use Rattle.diag_judge.specs.declared.tester.Judged.{Judged}
 use Rattle.diag_compare.specs.Compare.{beside, over_by}
 use Rattle.diag_compare.specs.Expects.{expects, step_expects}
-use Rattle.diag_compare.specs.Hearing.{asks, capture_line_of, entries_by, entry_happens, frame_with, happenings, in_states, is_of, time_of_line, unit_after, unit_events, unit_frame, unit_side}
+use Rattle.diag_compare.specs.Hearing.{asks, capture_line_of, entry_happens, frame_with, happenings, in_states, is_of, time_of_line, unit_events, unit_frame, unit_side}
 use Rattle.diag_compare.specs.Hearing as hearing
-use Rattle.diag_comparing.specs.Keeping.{AreTesters, IsLine, IsTester, bytes_with, entered_by, entry_entered, judged_pair, step_entered}
+use Rattle.diag_comparing.specs.Keeping.{IsLine, IsTester, bytes_with, entered_by, entry_entered, judged_pair, step_entered}
 use Rattle.diag_compare.proofs.Messages.{unit_push}
 use Rattle.diag_compare.proofs.Telling.{by_line, happen_push, with_line}
 

@@ -1,5 +1,5 @@
 -- How long after its request an answer goes: what the rows of answers say, of which no step makes one or changes that.
-use Rattle.std.proofs.Common.{◌≡◌, ℕ, zero, suc, ◌-◌, ◌<◌, Bool, true, false, cond, nat_lt, List, [], ◌∷◌, drop, refl, arith, ◌∙◌, Option, Some, None}
+use Rattle.std.proofs.Common.{◌≡◌, ℕ, zero, suc, ◌-◌, ◌<◌, Bool, true, false, cond, List, [], ◌∷◌, drop, refl, arith, ◌∙◌, Option, Some, None}
 use Rattle.std.proofs.lemmas.Bool.{ltb-false, or_parts}
 use Rattle.std.specs.Prelude.{◌==◌, if◌then◌else◌, nat_le, find, slice_get}
 use Rattle.diag_setup.specs.Setup.{first_holding}

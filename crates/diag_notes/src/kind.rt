@@ -70,6 +70,8 @@ fn in_its_form(line: &str) -> &'static str {
         "its stamp isn't 1 to 12 digits, a point and 6 to 9 digits"
     } else if !rest.contains('#') {
         "it has no identifier and #, as 7E0#021003"
+    } else if rest.contains("##") {
+        "behind ## stand a digit of flags and the bytes of a frame of CAN FD, two hex digits each: 0 to 8, 12, 16, 20, 24, 32, 48 or 64"
     } else {
         "behind # stand 0 to 8 bytes, two hex digits each; an identifier has 3 hex digits up to 7FF, or 8"
     }

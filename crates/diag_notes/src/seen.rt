@@ -66,6 +66,11 @@ impl Line<'_> {
         }
     }
 
+    /// Whether it is a remote frame, which has no bytes.
+    fn is_remote(&self) -> bool {
+        self.rest.starts_with(b"R")
+    }
+
     /// Whether more bytes stand behind a space, where they aren't read.
     fn is_spaced(&self) -> bool {
         match parted(self.rest, b' ') {
@@ -112,7 +117,7 @@ impl Frames {
     }
 }
 
-/// How many frames an interface has.
+/// How many data frames an interface has.
 #[derive(Drop)]
 struct Interface<'a> {
     name: &'a str,
@@ -220,7 +225,7 @@ impl<'a> Recording<'a> {
     }
 
     fn count(&mut self, line: &Line<'a>) -> Result<(), AllocError> {
-        self.interface(line.interface)?;
+        self.interface(line.interface, u64::from(!line.is_remote()))?;
         if self.choice.counts(line.interface) {
             return self.count_frame(line);
         }
@@ -263,16 +268,17 @@ impl<'a> Recording<'a> {
         }
     }
 
-    fn interface(&mut self, name: &'a str) -> Result<(), AllocError> {
+    /// So many data frames more of the interface of this name.
+    fn interface(&mut self, name: &'a str, frames: u64) -> Result<(), AllocError> {
         for interface in self.interfaces.iter_mut() {
             if interface.name == name {
-                interface.frames = interface.frames.saturating_add(1);
+                interface.frames = interface.frames.saturating_add(frames);
                 return Ok(());
             }
         }
         let is_chosen = self.choice.is_only(name);
         if self.interfaces.len() < MOST_INTERFACES || is_chosen {
-            self.interfaces.push(Interface { name, frames: 1 })?;
+            self.interfaces.push(Interface { name, frames })?;
         }
         Ok(())
     }
@@ -388,7 +394,7 @@ impl<'a> Recording<'a> {
 
     /// A second interface, where none was chosen.
     fn names(&self, notes: &mut Vec<String>, part: &str) -> Result<(), AllocError> {
-        if self.interfaces.len() < 2 {
+        if self.interfaces.iter().filter(|it| it.frames > 0).count() < 2 {
             return Ok(());
         }
         let told = "frames of more than one interface count";
@@ -402,19 +408,20 @@ impl<'a> Recording<'a> {
         Ok(())
     }
 
-    /// Adds the flag that takes the first interface.
+    /// Adds the flag that takes the first interface with frames.
     fn name_flag(&self, line: &mut String) -> Result<(), AllocError> {
-        if let Some(first) = self.interfaces.first() {
+        if let Some(first) = self.interfaces.iter().find(|it| it.frames > 0) {
             let name = first.name;
             write!(line, "; --interface {name} takes those of one")?;
         }
         Ok(())
     }
 
-    /// A text, and behind it the frames of each interface.
+    /// A text, and behind it the frames of each interface that has any.
     fn listed(&self, mut line: String, part: &str) -> Result<String, AllocError> {
         line.push_str(part)?;
-        for (index, interface) in self.interfaces.iter().enumerate() {
+        let with_frames = self.interfaces.iter().filter(|it| it.frames > 0);
+        for (index, interface) in with_frames.enumerate() {
             let name = interface.name;
             let frames = interface.frames;
             let mark = if index == 0 { ":" } else { "," };

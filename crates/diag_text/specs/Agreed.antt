@@ -1,5 +1,5 @@
 -- What is told of a recording with which the server agrees, and the status that the program ends with.
-use Rattle.std.specs.Prelude.{ℕ, ◌==◌, codes, Bool, true, false, if◌then◌else◌, List, [], ◌++◌, length}
+use Rattle.std.specs.Prelude.{ℕ, ◌==◌, codes, Bool, if◌then◌else◌, List, [], ◌++◌, length}
 use Rattle.std.specs.List.{list_all}
 use Rattle.diag_setup.specs.declared.raw.RawSetup.{RawSetup}
 use Rattle.diag_bus.specs.Verdict.{agreement_text, numbers, recorded}

@@ -7,7 +7,6 @@ use Rattle.diag_can.specs.Event.{Event, Ticks}
 use Rattle.diag_pdu.specs.Cut.{counted_from}
 use Rattle.diag_setup.specs.declared.raw.RawSetup.{RawSetup}
 use Rattle.diag_ecu.specs.State.{opening}
-use Rattle.diag_desk.specs.declared.entry.Entry.{Entry}
 use Rattle.diag_desk.specs.Timed.{Timed, timed}
 use Rattle.diag_port.specs.Port.{PortState, port_quiet}
 use Rattle.diag_port.specs.Standing.{entry_of_ticks}

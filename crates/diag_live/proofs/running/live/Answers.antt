@@ -1,9 +1,9 @@
-use Rattle.std.proofs.Common.{inl, inr, sym, refl, subst, arith, ◌∙◌}
+use Rattle.std.proofs.Common.{inl, inr, subst, arith, ◌∙◌}
 use Rattle.std.proofs.KnownBytes.{Keeps-refl}
 use Rattle.std.proofs.lemmas.Result.{err_from_is_err_and}
 use Rattle.diag_live.specs.Pace.{Did}
 use Rattle.diag_live.specs.Serving.{Turned}
-use Rattle.diag_live.proofs.Runnings.{begun, err_same, gives_up, gives_up_behind, halted, refused_first, times_asked-turn, turned_off, turned_on, unheard}
+use Rattle.diag_live.proofs.Runnings.{begun, err_same, gives_up, halted, refused_first, times_asked-turn, turned_off, turned_on, unheard}
 use Rattle.diag_live.proofs.running.live.Goals as goal
 
 pub returns-in_err-bus-clause-fault : goal.returns-in_err-bus-clause-fault

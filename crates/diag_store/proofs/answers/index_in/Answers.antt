@@ -1,5 +1,4 @@
-use Rattle.std.proofs.Common.{◌≡◌, ◌∙◌, sym, arith, ap, length, ℕ, false, true, slice_index, slice_index_or}
-use Rattle.std.specs.Prelude.{map}
+use Rattle.std.proofs.Common.{◌≡◌, ◌∙◌, sym, arith, ap, length, false, true, slice_index, slice_index_or}
 use Rattle.std.proofs.lemmas.List.{length-map}
 use Rattle.diag_setup.specs.declared.raw.PatternItem.TheVariants as pattern
 use Rattle.diag_store.specs.Answers.{applies, is_of, row_first}

@@ -1,4 +1,4 @@
-use Rattle.std.proofs.Common.{arith, ℕ}
+use Rattle.std.proofs.Common.{arith}
 use Rattle.std.proofs.lemmas.List.{take-replicate}
 use Rattle.diag_store.proofs.security.zeros.Goals as goal
 

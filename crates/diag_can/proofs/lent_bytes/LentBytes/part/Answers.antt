@@ -1,4 +1,4 @@
-use Rattle.std.proofs.Common.{◌≡◌, ◌≤◌, ◌+◌, ℕ, List, length, take, drop, ap, sym, ◌∙◌, arith}
+use Rattle.std.proofs.Common.{◌≡◌, ◌≤◌, ◌+◌, ℕ, List, length, take, drop, ap, sym, ◌∙◌}
 use Rattle.std.proofs.lemmas.List.{drop-take, take-take}
 use Rattle.diag_can.proofs.lent_bytes.LentBytes.part.Goals as goal
 

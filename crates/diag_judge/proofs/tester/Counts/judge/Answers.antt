@@ -3,7 +3,6 @@ use Rattle.std.proofs.lemmas.List.{append-nil, map-append, reverse-reverse, take
 use Rattle.std.specs.Prelude.{reverse}
 use Rattle.diag_exchange.specs.declared.happening.Over.{Over}
 use Rattle.diag_judge.specs.Judging.{AreCounts, judged_for}
-use Rattle.diag_judge.specs.declared.tester.Counts.{Counts}
 use Rattle.diag_judge.specs.declared.tester.Judged.{Judged}
 use Rattle.diag_judge.proofs.Lines.{next_of}
 use Rattle.diag_judge.proofs.tester.Counts.judge.Goals as goal
