@@ -70,11 +70,23 @@ fn in_its_form(line: &str) -> &'static str {
         "its stamp isn't 1 to 12 digits, a point and 6 to 9 digits"
     } else if !rest.contains('#') {
         "it has no identifier and #, as 7E0#021003"
+    } else if line.contains('\t') {
+        "its parts stand apart by a tab, where a space is wanted"
+    } else if rest.contains("0x") {
+        "an identifier has no 0x: 3 hex digits up to 7FF, or 8, as 7E0#021003"
     } else if rest.contains("##") {
         "behind ## stand a digit of flags and the bytes of a frame of CAN FD, two hex digits each: 0 to 8, 12, 16, 20, 24, 32, 48 or 64"
+    } else if has_many_digits(rest) {
+        "a frame of more than 8 bytes is one of CAN FD: ## and a digit of flags stand before its bytes, as 7E0##1"
     } else {
         "behind # stand 0 to 8 bytes, two hex digits each; an identifier has 3 hex digits up to 7FF, or 8"
     }
+}
+
+/// Whether more hex digits stand behind `#` than a classic frame has.
+fn has_many_digits(rest: &str) -> bool {
+    let (_, data) = rest.split_once('#').unwrap_or(("", ""));
+    data.bytes().take_while(|c| c.is_ascii_hexdigit()).count() > 16
 }
 
 /// Whether a stamp without its end is `(`, digits, a point and 6 to 9 digits.

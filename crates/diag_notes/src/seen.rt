@@ -89,7 +89,7 @@ struct Frames {
     all: u64,
     /// With the identifier of its requests.
     requests: u64,
-    /// Of these the first ones of messages.
+    /// Those of the tester's own, functional ones among them, that are the first of messages.
     begins: u64,
     /// With the identifier of the unit's answers.
     responses: u64,
@@ -110,9 +110,9 @@ impl Frames {
         }
         if line.id == side.request {
             self.requests = self.requests.saturating_add(1);
-            if line.begins() {
-                self.begins = self.begins.saturating_add(1);
-            }
+        }
+        if line.id != side.response && line.begins() {
+            self.begins = self.begins.saturating_add(1);
         }
     }
 }
@@ -122,6 +122,53 @@ impl Frames {
 struct Interface<'a> {
     name: &'a str,
     frames: u64,
+}
+
+/// Where stamps go back by a second or more.
+#[derive(Clone, Copy)]
+struct StepBack {
+    /// The line's number, from 1.
+    line: u64,
+    /// By how many microseconds.
+    by: u64,
+}
+
+/// What the stamps of a recording tell.
+#[derive(Clone, Copy)]
+struct Stamps {
+    /// How many lines were seen.
+    lines: u64,
+    /// The greatest stamp, in microseconds.
+    greatest: u64,
+    /// The first step back.
+    back: Option<StepBack>,
+}
+
+/// The fewest microseconds of a step back that are told: recorders put lines of one moment in any order.
+const LEAST_BACK: u64 = 1_000_000;
+
+impl Stamps {
+    const NONE: Stamps = Stamps {
+        lines: 0,
+        greatest: 0,
+        back: None,
+    };
+
+    /// One line more.
+    fn take(&mut self, line: &[u8]) {
+        self.lines = self.lines.saturating_add(1);
+        let Some(stamp) = stamp_of(line) else {
+            return;
+        };
+        let by = self.greatest.saturating_sub(stamp);
+        if by >= LEAST_BACK && self.back.is_none() {
+            self.back = Some(StepBack {
+                line: self.lines,
+                by,
+            });
+        }
+        self.greatest = self.greatest.max(stamp);
+    }
 }
 
 /// What was seen of a recording.
@@ -141,6 +188,10 @@ pub struct Recording<'a> {
     spaced: u64,
     interfaces: Vec<Interface<'a>>,
     choice: Choice<'a>,
+    /// What its stamps tell.
+    stamps: Stamps,
+    /// Whether its run takes the time of the stamps.
+    is_timed: bool,
 }
 
 /// Whose frames count, as far as its run has a choice.
@@ -189,7 +240,14 @@ impl<'a> Recording<'a> {
             spaced: 0,
             interfaces: Vec::new(alloc),
             choice: Choice::None,
+            stamps: Stamps::NONE,
+            is_timed: false,
         }
+    }
+
+    /// Its run takes the time of the stamps.
+    pub fn time(&mut self) {
+        self.is_timed = true;
     }
 
     /// Its run can take the frames of one interface alone: of this one, if any is given.
@@ -218,7 +276,9 @@ impl<'a> Recording<'a> {
 
     /// Looks at a line, if there is one.
     fn look_at(&mut self, line: Option<&'a [u8]>) -> Result<(), AllocError> {
-        match read_line(line.unwrap_or(b"")) {
+        let line = line.unwrap_or(b"");
+        self.stamps.take(line);
+        match read_line(line) {
             Some(line) => self.count(&line),
             None => Ok(()),
         }
@@ -319,7 +379,24 @@ impl<'a> Recording<'a> {
         }
         self.passed(&mut notes, part)?;
         self.names(&mut notes, part)?;
+        self.step_back(&mut notes)?;
         Ok(notes)
+    }
+
+    /// That the stamps go back, where they tell the time.
+    fn step_back(&self, notes: &mut Vec<String>) -> Result<(), AllocError> {
+        let Some(back) = self.stamps.back else {
+            return Ok(());
+        };
+        if self.is_timed {
+            let line = back.line;
+            let seconds = back.by / 1_000_000;
+            let millis = back.by / 1_000 % 1_000;
+            notes.push(format!(in self.alloc;
+                "the stamps go back at line {line}, by {seconds}.{millis:03} s: no time passes until they are greater than before"
+            )?)?;
+        }
+        Ok(())
     }
 
     /// What wasn't seen of a tester's own frames.
@@ -448,6 +525,19 @@ fn read_line(line: &[u8]) -> Option<Line<'_>> {
     })
 }
 
+/// A line's stamp in microseconds.
+fn stamp_of(line: &[u8]) -> Option<u64> {
+    let [b'(', rest @ ..] = line else {
+        return None;
+    };
+    let (stamp, _) = parted(rest, b')')?;
+    let (seconds, fraction) = parted(stamp, b'.')?;
+    let micros = decimal_number(fraction.get(..6)?)?;
+    decimal_number(seconds)?
+        .checked_mul(1_000_000)?
+        .checked_add(micros)
+}
+
 /// What stands before the first such byte, and what behind it.
 fn parted(text: &[u8], mark: u8) -> Option<(&[u8], &[u8])> {
     let at = memchr(mark, text)?;
@@ -457,6 +547,16 @@ fn parted(text: &[u8], mark: u8) -> Option<(&[u8], &[u8])> {
 fn behind_spaces(text: &[u8]) -> &[u8] {
     let spaces = text.iter().take_while(|c| **c == b' ').count();
     text.get(spaces..).unwrap_or(b"")
+}
+
+/// The number of decimal digits; none where there is another byte, or the number is too great.
+fn decimal_number(digits: &[u8]) -> Option<u64> {
+    let mut number: u64 = 0;
+    for c in digits {
+        let digit = char::from(*c).to_digit(10)?;
+        number = number.checked_mul(10)?.checked_add(u64::from(digit))?;
+    }
+    Some(number)
 }
 
 /// The number of hex digits of either case; none where there is no digit, or the number is too great.

@@ -493,7 +493,7 @@ fn run_live<R: Print + Eprint + Files + Input + AllocGlobal + Clock + Wait>(
     };
     let mut out = io::writer(rt);
     let outcome = serve(rt.alloc(), setup, &mut bench, &mut out, &mut record);
-    finish(rt, notes, &outcome, &[])
+    finish(rt, notes, &outcome, bench.first())
 }
 
 /// The setup of a config, or how the run ends without one.

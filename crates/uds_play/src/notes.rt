@@ -2,6 +2,7 @@
 //! nor the status, and where there is no memory or no file for one, it is left out.
 
 use crate::answer::{Answer, answer_at};
+use crate::source::MOST_KEPT;
 use diag_check::{Remark, check, look_at};
 use diag_config::read_setup;
 use diag_notes::{
@@ -38,7 +39,7 @@ pub struct Notes<'a> {
     pub interface: Option<&'a str>,
     /// The path of the setup.
     pub config: &'a str,
-    /// The paths of the files behind it; none is standard input.
+    /// The paths of the files behind it; none is standard input. Of a live run it is that of its record.
     pub files: &'a [&'a str],
     /// What the files are.
     pub kind: FileKind,
@@ -123,14 +124,14 @@ impl Notes<'_> {
         }
         // Where there is no memory, no note tells of it.
         let _ = match outcome {
-            Outcome::Done { .. } => self.unseen(rt, false),
+            Outcome::Done { .. } => self.unseen(rt, false, first),
             Outcome::Fault {
                 told: Some(told),
                 status,
             } => {
                 let told = str::from_utf8(told.as_slice()).unwrap_or("");
                 match Place::of(told) {
-                    Place::Nowhere if *status == 8 => self.unseen(rt, true),
+                    Place::Nowhere if *status == 8 => self.unseen(rt, true, first),
                     place => self.at_place(rt, place, first),
                 }
             }
@@ -199,13 +200,18 @@ impl Notes<'_> {
         Ok(())
     }
 
+    /// Whether what is read is standard input.
+    fn is_standard(&self) -> bool {
+        self.files.is_empty() || self.kind == FileKind::Record
+    }
+
     fn path(&self, number: usize) -> &str {
         let Some(index) = number.checked_sub(1) else {
             return self.config;
         };
         match self.files.get(index) {
-            Some(path) => path,
-            None => "standard input",
+            Some(path) if !self.is_standard() => path,
+            _ => "standard input",
         }
     }
 
@@ -232,10 +238,7 @@ impl Notes<'_> {
         number: u64,
         first: &[u8],
     ) -> Result<Option<Vec<u8>>, AllocError> {
-        if self.kind == FileKind::Record {
-            return Ok(None);
-        }
-        if self.files.is_empty() {
+        if self.is_standard() {
             let mut first = first;
             return line_at(rt.alloc(), &mut first, number);
         }
@@ -292,7 +295,7 @@ impl Notes<'_> {
         first: &[u8],
     ) -> Result<bool, AllocError> {
         let path = self.path(file);
-        let kind = if self.files.is_empty() {
+        let kind = if self.is_standard() {
             file_kind(first)
         } else {
             let first = read_regular(rt, path, MOST_FIRST);
@@ -335,9 +338,10 @@ impl Notes<'_> {
         if self.quiet {
             return;
         }
-        let path = self.path(1);
-        if let Ok(line) = format!(in rt.alloc(); "{path}: {error}") {
-            note(rt, line.as_str());
+        if let Some(path) = self.files.first() {
+            if let Ok(line) = format!(in rt.alloc(); "{path}: {error}") {
+                note(rt, line.as_str());
+            }
         }
     }
 
@@ -356,12 +360,13 @@ impl Notes<'_> {
         Ok(())
     }
 
-    /// What a run didn't see in the recordings that can be looked at again. With `is_judged` the unit's own frames should
-    /// be in them.
+    /// What a run didn't see in the recordings that can be looked at again, and in standard input where all of it was kept.
+    /// With `is_judged` the unit's own frames should be in them.
     fn unseen<R: Eprint + Files + AllocGlobal>(
         &self,
         rt: &R,
         is_judged: bool,
+        first: &[u8],
     ) -> Result<(), AllocError> {
         if self.kind == FileKind::Journal {
             return Ok(());
@@ -372,27 +377,45 @@ impl Notes<'_> {
         let Ok(setup) = read_setup(rt.alloc(), config.as_slice()) else {
             return Ok(());
         };
-        let mut is_one_silent = false;
-        for (index, path) in self.files.iter().enumerate() {
-            let only = match self.kind {
-                FileKind::Logs => Some(index),
-                FileKind::Capture | FileKind::Journal | FileKind::Record => None,
-            };
-            if let Some(text) = read_regular(rt, path, MOST_LOOK) {
-                let looked = Looked {
-                    only,
-                    interface: self.interface,
-                    is_judged,
-                };
-                let is_silent = note_unseen(rt, setup.raw(), &looked, text.as_slice())?;
-                is_one_silent = is_one_silent || is_silent;
-            }
-        }
+        let is_one_silent = if self.files.is_empty() {
+            first.len() < MOST_KEPT
+                && note_unseen(rt, setup.raw(), &self.looked(0, is_judged), first)?
+        } else {
+            self.unseen_in_files(rt, setup.raw(), is_judged)?
+        };
         if is_one_silent {
             let report = look_at(rt.alloc(), config.as_slice())?;
             self.remarks(rt, report.odd.as_slice())?;
         }
         Ok(())
+    }
+
+    /// What a run didn't see in its files; whether a tester asks nothing in one of them.
+    fn unseen_in_files<R: Eprint + Files + AllocGlobal>(
+        &self,
+        rt: &R,
+        setup: &RawSetup,
+        is_judged: bool,
+    ) -> Result<bool, AllocError> {
+        let mut is_one_silent = false;
+        for (index, path) in self.files.iter().enumerate() {
+            if let Some(text) = read_regular(rt, path, MOST_LOOK) {
+                let looked = self.looked(index, is_judged);
+                let is_silent = note_unseen(rt, setup, &looked, text.as_slice())?;
+                is_one_silent = is_one_silent || is_silent;
+            }
+        }
+        Ok(is_one_silent)
+    }
+
+    /// What is looked for in the file of this index.
+    fn looked(&self, index: usize, is_judged: bool) -> Looked<'_> {
+        Looked {
+            only: (self.kind == FileKind::Logs).then_some(index),
+            interface: self.interface,
+            is_judged,
+            is_timed: self.kind == FileKind::Capture,
+        }
     }
 }
 
@@ -405,6 +428,8 @@ struct Looked<'a> {
     interface: Option<&'a str>,
     /// Whether the unit's own frames should be there.
     is_judged: bool,
+    /// Whether the stamps tell the time.
+    is_timed: bool,
 }
 
 /// Tells what wasn't seen in the text of a recording: of all testers, or of the one whose log it is. Answers whether one of
@@ -418,6 +443,9 @@ fn note_unseen<R: Eprint + AllocGlobal>(
     let mut recording = Recording::new(rt.alloc());
     if looked.only.is_none() {
         recording.choose(looked.interface);
+    }
+    if looked.is_timed {
+        recording.time();
     }
     for (index, tester) in setup.testers.as_slice().iter().enumerate() {
         if looked.only.is_none_or(|only| only == index) {

@@ -2,6 +2,7 @@
 
 use crate::flow_lines::FlowLines;
 use crate::pace::Pace;
+use crate::source::keep;
 use crossbeam_channel::{Receiver, RecvTimeoutError, Sender};
 use diag_interface::Chosen;
 use diag_live::{Bench, Heard};
@@ -38,6 +39,8 @@ pub struct StandardBench<'a, R> {
     held: Option<HeldLines>,
     /// How the input ended behind what is held.
     end: Option<Heard>,
+    /// The first bytes that were heard.
+    first: Vec<u8>,
 }
 
 /// Lines that are held until a moment, in milliseconds: flow control, and what came behind it.
@@ -70,11 +73,17 @@ impl<'a, R: Clock> StandardBench<'a, R> {
             flow_lines,
             held: None,
             end: None,
+            first: Vec::new(alloc),
         })
     }
 }
 
 impl<'a, R: Clock> StandardBench<'a, R> {
+    /// The first bytes that were heard.
+    pub fn first(&self) -> &[u8] {
+        self.first.as_slice()
+    }
+
     /// The time since the start; what it told last where the clock can't be read.
     fn elapsed(&mut self) -> Duration {
         if let Ok(elapsed) = self.start.elapsed(self.rt) {
@@ -117,8 +126,17 @@ impl<'a, R: Clock> StandardBench<'a, R> {
 }
 
 impl<'a, R: Clock + Wait> StandardBench<'a, R> {
-    /// The next piece or the end, or silence once the clock tells this moment.
+    /// The next piece or the end, or silence once the clock tells this moment; the first bytes are kept.
     fn receive(&mut self, until: u64) -> Heard {
+        let heard = self.wait(until);
+        if let Heard::Piece(piece) = &heard {
+            keep(&mut self.first, piece.as_slice());
+        }
+        heard
+    }
+
+    /// The next piece or the end, or silence once the clock tells this moment.
+    fn wait(&mut self, until: u64) -> Heard {
         if until == u64::MAX {
             return self.pieces.recv(self.rt).unwrap_or(Heard::Fault);
         }
