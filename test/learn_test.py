@@ -846,6 +846,38 @@ class OfOtherForms(unittest.TestCase):
             self.assertEqual((0, want), (found.status, found.tree()), form)
 
 
+    def test_what_is_not_of_its_form(self) -> None:
+        """It is told, with the status of a file that can't be read."""
+        line = b"(1763800000.100000) can0 7E0#023E00\n"
+        for name, data, words in (
+            ("cut.blf", b"", "python-can can't read it: "),
+            ("none.trc", b"", "python-can can't read it: "),
+            ("junk.asc", b"\x98\xff\n", "python-can can't read it: "),
+            ("junk.csv", b"a\nb\n", "python-can can't read it: "),
+            ("none.db", b"", "python-can can't read it: "),
+            ("none.mf4", b"", "python-can can't read it: "),
+            ("candump.asc", line, "by its first line it is a log of candump -L; "),
+            ("candump.blf", line, "by its first line it is a log of candump -L; "),
+        ):
+            with self.subTest(name), tempfile.TemporaryDirectory() as room:
+                with open(f"{room}/{name}", "wb") as it:
+                    it.write(data)
+                found = learned(f"{room}/{name}")
+                self.assertEqual((7, ""), (found.status, found.text), found.told)
+                self.assertTrue(found.told.startswith(f"learn: {room}/{name}: {words}") or "wants python-can" in found.told, found.told)
+
+    def test_a_data_base_that_is_not_there_is_not_made(self) -> None:
+        with tempfile.TemporaryDirectory() as room:
+            found = learned(f"{room}/none.db")
+            self.assertEqual((7, "", []), (found.status, found.text, os.listdir(room)))
+            self.assertIn("No such file", found.told)
+
+    def test_a_recording_without_frames_is_told(self) -> None:
+        with tempfile.TemporaryDirectory() as room:
+            found = learned(put(f"{room}/none.csv", "timestamp,arbitration_id,extended,remote,error,dlc,data\n"))
+        self.assertTrue(found.status == 9 and "python-can finds no frame in it\n" in found.told or "wants python-can" in found.told, found.told)
+
+
 class OnABus(unittest.TestCase):
     """`live` with a learned setup answers the recorded testers as the recording has it, but for response pending."""
 

@@ -41,6 +41,8 @@ PROGRAM = f"{TOP}/crates/uds_play/out/uds_play"
 # where Debian's packages stand, for a Python that isn't Debian's
 DEBIAN = "/usr/lib/python3/dist-packages"
 OTHERS = (".asc", ".blf", ".trc", ".csv", ".mf4", ".db")
+# how a line of `candump -L` begins
+OF_CANDUMP = re.compile(rb"\(\d+\.\d+\) +\S+ +[0-9A-Fa-f]+#")
 # so much of a recording is read at a time
 BLOCK = 1 << 22
 # the most rounds, and how many of them may bring nothing
@@ -96,13 +98,30 @@ def converted(path: str, room: str) -> str:
         return f"{room}/capture.log"
     if not path.lower().endswith(OTHERS):
         return path
+    # (python-can makes a data base that isn't there)
+    with open(path, "rb") as it:
+        if OF_CANDUMP.match(it.readline(100)):
+            raise OSError(f"{path}: by its first line it is a log of candump -L; give it a name that ends in .log")
+    read_by_python_can(path, f"{room}/capture.log")
+    if not os.path.getsize(f"{room}/capture.log"):
+        say(f"{path}: python-can finds no frame in it")
+    return f"{room}/capture.log"
+
+
+def read_by_python_can(path: str, log: str) -> None:
+    """Writes a recording of another form as a log. OSError where it can't be read; ImportError where python-can isn't there."""
     if os.path.isdir(f"{DEBIAN}/can") and DEBIAN not in sys.path:
         sys.path.append(DEBIAN)
     import can  # pylint: disable=import-outside-toplevel
 
-    with can.LogReader(path) as messages, open(f"{room}/capture.log", "w", encoding="ascii") as out:
-        out.writelines(line_of(it) for it in messages)
-    return f"{room}/capture.log"
+    try:
+        with can.LogReader(path) as messages, open(log, "w", encoding="ascii") as out:
+            out.writelines(line_of(it) for it in messages)
+    except OSError:
+        raise
+    except Exception as fault:  # pylint: disable=broad-except
+        # (a file of another form, or a part of one, may raise anything there)
+        raise OSError(f"{path}: python-can can't read it: {fault}") from None
 
 
 def line_of(message) -> str:
