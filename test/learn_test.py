@@ -507,12 +507,13 @@ class OfTheBus(unittest.TestCase):
         pair = [learn_bus.Pair(0x7E0, 0x7E8, is_fd=True)]
         single = f"7E8##A001462F190{'41' * 17}5555"
         found = learn_bus.sending_of(self.lines("7E0##A0322F190", single, "7E8##A037F2231", "7E8##2300000"), pair)
-        self.assertEqual((None, 0x55, 24, 10), (found.pad, found.fill, found.tx_dl, found.flags))
+        self.assertEqual((None, 0x55, None, 10), (found.pad, found.fill, found.tx_dl, found.flags))
         found = learn_bus.sending_of(self.lines(single, "7E8##5037F2231AAAAAAAA", f"7E8##51014{'41' * 30}", "7E8#037F2231AAAAAAAA"), [learn_bus.Pair(0x7E0, 0x7E8)])
-        self.assertEqual((0xAA, None, 8, 1), (found.pad, found.fill, found.tx_dl, found.flags))
+        self.assertEqual((0xAA, None, None, 1), (found.pad, found.fill, found.tx_dl, found.flags))
         self.assertEqual(0x55, learn_bus.sending_of(self.lines(single), pair).pad)
         # (a length that there isn't is a fault of the recording, which the program tells)
-        self.assertEqual(12, learn_bus.sending_of(self.lines("7E8##1" + "00" * 9), pair).tx_dl)
+        self.assertEqual(12, learn_bus.sending_of(self.lines("7E8##11014" + "00" * 7), pair).tx_dl)
+        self.assertEqual(8, learn_bus.sending_of(self.lines(single, f"7E8##11014{'41' * 6}", f"7E8##121{'41' * 7}"), pair).tx_dl)
 
     def test_broken_messages_of_can_fd(self) -> None:
         pair = [learn_bus.Pair(0x7E0, 0x7E8, is_fd=True)]
@@ -653,9 +654,25 @@ class OfRecordings(unittest.TestCase):
                 lines = recording(seed, is_fd=True)
                 found, pairs = learned_of(lines), {"7E8", "7E9", "77A", "77B", "18DAF110", "18DAF210"}
                 self.assertEqual((0, ""), (found.status, re.sub("learn: .* pairs are taken .*\n", "", found.told)))
-                lengths = [len(data) // 2 for identifier, data in re.findall(r" ([0-9A-F]+)##5([0-9A-F]*)", lines) if identifier in pairs]
-                self.assertEqual((max(8, *lengths), 5), (found.tree()["tx_dl"], found.tree()["fd_flags"]))
+                firsts = {len(data) // 2 for identifier, data in re.findall(r" ([0-9A-F]+)##5(1[0-9A-F]*)", lines) if identifier in pairs}
+                self.assertEqual((firsts or {64}, 5), ({found.tree()["tx_dl"]}, found.tree()["fd_flags"]))
+                self.assertEqual(not firsts, "tx_dl = 64  # no FirstFrame told it\n" in found.text)
                 self.assertTrue(all(it["fd"] for it in found.tree()["tester"]))
+
+    def test_single_frames_of_can_fd_alone(self) -> None:
+        """They are as short as they can be, so the greatest length verifies them all."""
+        for size in (3, 4, 5, 8, 20, 59):
+            message = f"62F190{'41' * size}"
+            length = next(it for it in LENGTHS if it >= size + (4 if size < 5 else 5))
+            answer = f"{size + 3:02X}{message}" if size < 5 else f"00{size + 3:02X}{message}"
+            lines = frames((0, "7E0##10322F190"), (3, f"7E8##1{answer.ljust(2 * length, 'C')}"), (50, "7E0##1023E00"), (53, "7E8##1027E00CCCCCCCCCC"), (90, "123#00"))
+            found = learned_of(lines)
+            self.assertEqual((0, 64), (found.status, found.tree()["tx_dl"]))
+            self.assertIn("tx_dl = 64  # no FirstFrame told it\n", found.text)
+            with tempfile.TemporaryDirectory() as room:
+                words = [OPTIONS[1], "verify", put(f"{room}/unit.toml", found.text), put(f"{room}/unit.log", lines)]
+                ran = subprocess.run(words, capture_output=True, text=True, timeout=60)
+            self.assertEqual((0, "tester_7E0 2 frames agree\n"), (ran.returncode, ran.stdout), ran.stderr)
 
     def test_a_classic_pair_beside_one_of_can_fd(self) -> None:
         """They can't have one functional identifier."""
@@ -665,7 +682,7 @@ class OfRecordings(unittest.TestCase):
             found = learned_of(frames(*((at * 100, it) for at, it in enumerate([*asks, functional]))))
             self.assertEqual((0, [True, None]), (found.status, [it.get("fd") for it in found.tree()["tester"]]), found.told)
             self.assertEqual(own, [it.get("functional") for it in found.tree()["tester"]], functional)
-            self.assertEqual((24, 0xCC, [{"id": 0xF190, "value": value}]), (found.tree()["tx_dl"], found.tree()["pad_byte"], found.tree()["did"]))
+            self.assertEqual((64, 0xCC, [{"id": 0xF190, "value": value}]), (found.tree()["tx_dl"], found.tree()["pad_byte"], found.tree()["did"]))
 
     def test_the_demo(self) -> None:
         for name in ("bus.log", "other_unit.log"):

@@ -4,7 +4,7 @@ import textwrap
 from dataclasses import dataclass, field
 from typing import Iterator, Optional
 
-from learn_bus import FUNCTIONAL, FUNCTIONAL_29, Pair, Sending
+from learn_bus import FUNCTIONAL, FUNCTIONAL_29, LENGTHS, Pair, Sending
 from uds_names import IDENTIFIERS, NEGATIVE, service_name, sub_name
 
 # the times of links that a setup has where it says nothing
@@ -176,7 +176,9 @@ def filling(unit: Unit) -> Iterator[str]:
     yield "pad = false\n" if sending.pad is None else ""
     yield f"pad_byte = 0x{byte:02X}\n" if byte is not None else ""
     if any(it.is_fd for it in unit.pairs):
-        yield f"tx_dl = {sending.tx_dl}\nfd_flags = 0x{sending.flags:X}\n"
+        # (with the greatest length all SingleFrames are as they were seen)
+        yield f"tx_dl = {sending.tx_dl}\n" if sending.tx_dl else f"tx_dl = {LENGTHS[-1]}  # no FirstFrame told it\n"
+        yield f"fd_flags = 0x{sending.flags:X}\n"
 
 
 def waits(sending: Sending) -> Iterator[str]:
