@@ -682,7 +682,17 @@ class OfRecordings(unittest.TestCase):
             found = learned_of(frames(*((at * 100, it) for at, it in enumerate([*asks, functional]))))
             self.assertEqual((0, [True, None]), (found.status, [it.get("fd") for it in found.tree()["tester"]]), found.told)
             self.assertEqual(own, [it.get("functional") for it in found.tree()["tester"]], functional)
+            other, one = ("CAN FD", "classic CAN") if own[1] else ("classic CAN", "CAN FD")
+            self.assertIn(f"functional = 0x7FF  # a free one: 7DF is of {other} here, and a tester by {one} can't have it, too\n", found.text)
             self.assertEqual((64, 0xCC, [{"id": 0xF190, "value": value}]), (found.tree()["tx_dl"], found.tree()["pad_byte"], found.tree()["did"]))
+
+    def test_both_are_asked_by_one_functional_identifier(self) -> None:
+        """The answers of the one that can't have it are told as unasked, with the reason."""
+        asks = ["7E0##10322F190", "7E8##1037F2231", "7E1#023E00", "7E9#027E00", "7DF##1023E00", "7E8##1027E00", "7E9#027E00"]
+        found = learned_of(frames(*((at * 100, it) for at, it in enumerate(asks))))
+        why = "7DF is of CAN FD here, and a tester by classic CAN can't have it, too"
+        told = f"learn: line 7: tester_7E1 was sent 7E00 which nobody asked for\nlearn: what tester_7E1 was sent to functional requests counts as unasked: {why}\n"
+        self.assertEqual((8, True), (found.status, found.told.endswith(told)), found.told)
 
     def test_the_demo(self) -> None:
         for name in ("bus.log", "other_unit.log"):

@@ -34,7 +34,7 @@ from learn_bus import FUNCTIONAL, FUNCTIONAL_29, MOST_TESTERS, Broken, Pair, Sen
 from learn_judge import AGREES, DIFFERS, NOTHING, Exchange, Judge, Program, Refused, Verdict
 from learn_model import learn_model
 from learn_rows import MOST_BYTES, Plan
-from learn_setup import Unit, setup_text
+from learn_setup import Unit, is_apart, setup_text, why_apart
 
 TOP = os.path.dirname(os.path.dirname(os.path.abspath(__file__)))
 PROGRAM = f"{TOP}/crates/uds_play/out/uds_play"
@@ -200,15 +200,24 @@ def is_too_long(it: Exchange) -> bool:
     return len(it.sent or b"") > MOST_BYTES
 
 
-def tell(verdict: Verdict, varies: bool) -> None:
+def tell_apart(unit: Unit, differing: list[Exchange]) -> None:
+    """Tells why a tester that doesn't have the functional identifier sent what nobody asked for."""
+    for place in sorted({it.place for it in differing if it.kind == "U"}):
+        pair = unit.pairs[place]
+        if is_apart(unit, pair):
+            say(f"what {pair.name} was sent to functional requests counts as unasked: {why_apart(unit, pair)}")
+
+
+def tell(verdict: Verdict, unit: Unit) -> None:
     """Tells what differs."""
     differing = verdict.differing()
-    if not varies and any(it.request[:1] == b"\x22" and not is_too_long(it) for it in differing):
+    if not unit.varies and any(it.request[:1] == b"\x22" and not is_too_long(it) for it in differing):
         say("with --varies the values that change aren't compared")
     for it in differing[:MOST_TOLD]:
         say(f"{it.told()}{f'; no row has an answer of more than {MOST_BYTES} bytes' if is_too_long(it) else ''}")
     if len(differing) > MOST_TOLD:
         say(f"and {len(differing) - MOST_TOLD} more")
+    tell_apart(unit, differing)
     for line in verdict.notes.splitlines():
         say(line)
     if verdict.status == NOTHING:
@@ -335,7 +344,7 @@ def main(given: Optional[list[str]] = None) -> int:
         # (what is left isn't tried again at the exit)
         sys.stdout = None
         return 7
-    tell(verdict, words.varies)
+    tell(verdict, unit)
     tell_broken(unit.sending.broken)
     return verdict.status if verdict.status in (DIFFERS, NOTHING) else AGREES
 
