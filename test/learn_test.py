@@ -476,6 +476,10 @@ class OfTheBus(unittest.TestCase):
 
     def test_long_answers_are_answers(self) -> None:
         self.assertEqual(["7E1:7E9"], self.pairs("7E1#0322F190", "7E9#101462F190000000"))
+        self.assertEqual(["7E1:7E9"], self.pairs("7E1#0322F190", "7E9#10000000138B62F1"))
+        self.assertEqual(["7E1:7E9"], self.pairs("7E1#10000000138B3601", "7E9#027601"))
+        # (one that breaks off before its message)
+        self.assertEqual([], self.pairs("7E1#0322F190", "7E9#10000000138B", "7E9#1000"))
 
     def test_a_functional_identifier_is_of_no_pair(self) -> None:
         frames = ["700#023E00", "77A#027E00", "77B#027E00", "710#023E00", "77A#027E00", "711#023E00", "77B#027E00"] * 2
@@ -729,15 +733,18 @@ class OfRecordings(unittest.TestCase):
         for interface, value in (("can0", "0203"), ("can1", "0204")):
             found = learned_of(both, "--interface", interface)
             self.assertEqual((0, "", [{"id": 0xF195, "value": value}]), (found.status, found.told, found.tree()["did"]))
-        self.assertEqual(9, self.told(both, "--interface", "can.")[0])
+        told = 'learn: uds_play: note: no line of the interface can. was seen: can0 2, can1 2\n'
+        self.assertEqual((9, told), self.told(both, "--interface", "can."))
 
     def test_an_answer_too_long_for_a_row(self) -> None:
         message = "620101" + "41" * 4997
         rest = [f"7E8#2{number % 16:X}{message[at : at + 14]}" for number, at in enumerate(range(4, len(message), 14), 1)]
-        found = learned_of(frames((0, "7E0#03220101"), (1, f"7E8#100000001388{message[:4]}"), (2, "7E0#300000"), *((3, it) for it in rest)), "--pair", "7E0:7E8=A")
+        lines = frames((0, "7E0#03220101"), (1, f"7E8#100000001388{message[:4]}"), (2, "7E0#300000"), *((3, it) for it in rest))
+        found = learned_of(lines, "--pair", "7E0:7E8=A")
         shown = f"{message[:48]}.. (5000 bytes)"
         told = f"learn: line 1: A was sent {shown} to 220101, expected 7F2231; no row has an answer of more than 4095 bytes\n"
         self.assertEqual((8, told), (found.status, found.told))
+        self.assertEqual((8, found.text), (learned_of(lines).status, learned_of(lines).text.replace("tester_7E0", "A")))
 
     def test_a_wrong_key_where_seeds_vary(self) -> None:
         """The wrong key has a row, and nothing else does: behind the right one the level is unlocked."""

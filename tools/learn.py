@@ -238,14 +238,15 @@ def tell_broken(broken: Broken) -> None:
 
 
 class NoTester(Exception):
-    """There is no tester in a recording."""
+    """There is no tester in a recording; with what helps."""
 
 
-def refuse(program: str, path: str, room: str) -> None:
+def refuse(program: str, path: str, room: str, interface: Optional[str]) -> None:
     """Has the program tell what is wrong with a recording in which no tester is found; NoTester where it takes it."""
     pair = Pair(0x7E0, 0x7E8, name="tester")
-    Program(program, path, room, [pair.name])(setup_text(Unit([pair], None, Sending()), ""))
-    raise NoTester
+    verdict = Program(program, path, room, [pair.name], interface)(setup_text(Unit([pair], None, Sending()), ""))
+    lacking = (it for it in verdict.notes.splitlines() if "no line of the interface " in it)
+    raise NoTester(next(lacking, "no tester was found: --pair REQUEST:RESPONSE names one"))
 
 
 def unit_of(path: str, given: list[Pair], words: argparse.Namespace, progress: Progress) -> Unit:
@@ -317,12 +318,12 @@ def main(given: Optional[list[str]] = None) -> int:
             try:
                 unit = unit_of(path, pairs, words, progress)
             except NoTester:
-                refuse(words.program, path, room)
+                refuse(words.program, path, room, words.interface)
             progress.at(0.2, "the exchanges")
             judge = Program(words.program, path, room, [it.name for it in unit.pairs], words.interface)
             text, verdict = learned(unit, judge, plain(os.path.basename(words.capture)), progress)
-        except NoTester:
-            say("no tester was found: --pair REQUEST:RESPONSE names one")
+        except NoTester as fault:
+            say(str(fault))
             return NOTHING
         except OSError as fault:
             say(str(fault))

@@ -125,9 +125,10 @@ def look(blocks: Iterable[str], interface: Optional[str] = None) -> Sight:
 
 
 def message_at(data: str) -> int:
-    """Where the message begins among the digits of a SingleFrame or a FirstFrame; 0 of a SingleFrame that hasn't all of it."""
+    """Where the message begins among the digits of a SingleFrame or a FirstFrame; 0 of a SingleFrame that hasn't all of it. The
+    length of a message of more than 4095 bytes stands in four bytes behind `10 00`."""
     if data[0] == "1":
-        return 4
+        return 12 if data[1:4] == "000" else 4
     at, size = (4, int(data[2:4], 16)) if data[:2] == "00" else (2, int(data[1]))
     return at if len(data) >= at + 2 * size else 0
 
