@@ -746,6 +746,12 @@ class OfRecordings(unittest.TestCase):
         self.assertEqual((8, told), (found.status, found.told))
         self.assertEqual((8, found.text), (learned_of(lines).status, learned_of(lines).text.replace("tester_7E0", "A")))
 
+    def test_more_rows_than_a_setup_has(self) -> None:
+        steps = [(at * 20, at) for at in range(1030)]
+        found = learned_of(frames(*((ms + back, line) for ms, at in steps for back, line in ((0, f"7E0#0323{at:04X}"), (3, f"7E8#0363{at * 7 % 65521:04X}")))))
+        self.assertEqual((8, 1024), (found.status, len(rows_of(found))))
+        self.assertIn("learn: the setup is full: of the rows of answers 6 found no room (docs/FORMATS.md, Setup file, has the limits)\n", found.told)
+
     def test_a_wrong_key_where_seeds_vary(self) -> None:
         """The wrong key has a row, and nothing else does: behind the right one the level is unlocked."""
         asks = [

@@ -173,8 +173,8 @@ def count_of(verdict: Verdict) -> int:
     return len(verdict.differing())
 
 
-def learned(unit: Unit, judge: Judge, source: str, progress: Progress) -> tuple[str, Verdict]:
-    """The setup by which the fewest exchanges differ, and what the judge says of it."""
+def learned(unit: Unit, judge: Judge, source: str, progress: Progress) -> tuple[str, Verdict, int]:
+    """The setup by which the fewest exchanges differ, what the judge says of it, and how many rows found no room in it."""
     exchanges = judge(setup_text(unit, source)).exchanges
     progress.at(0.3, "the model")
     learn_model(unit, exchanges)
@@ -188,7 +188,7 @@ def learned(unit: Unit, judge: Judge, source: str, progress: Progress) -> tuple[
         verdict = judge(text)
         progress.at(0.4 + 0.6 * number / MOST_ROUNDS, f"{count_of(verdict)} exchanges differ")
         idle = 0 if best is None or count_of(verdict) < count_of(best[1]) else idle + 1
-        best = (text, verdict) if idle == 0 else best
+        best = (text, verdict, plan.left_out) if idle == 0 else best
         if verdict.status != DIFFERS or idle > MOST_IDLE or not plan.widen(verdict.exchanges):
             break
         unit.rows = plan.rows(unit, verdict.exchanges)
@@ -208,8 +208,8 @@ def tell_apart(unit: Unit, differing: list[Exchange]) -> None:
             say(f"what {pair.name} was sent to functional requests counts as unasked: {why_apart(unit, pair)}")
 
 
-def tell(verdict: Verdict, unit: Unit) -> None:
-    """Tells what differs."""
+def tell(verdict: Verdict, unit: Unit, left_out: int) -> None:
+    """Tells what differs, by so many rows that found no room."""
     differing = verdict.differing()
     if not unit.varies and any(it.request[:1] == b"\x22" and not is_too_long(it) for it in differing):
         say("with --varies the values that change aren't compared")
@@ -217,6 +217,8 @@ def tell(verdict: Verdict, unit: Unit) -> None:
         say(f"{it.told()}{f'; no row has an answer of more than {MOST_BYTES} bytes' if is_too_long(it) else ''}")
     if len(differing) > MOST_TOLD:
         say(f"and {len(differing) - MOST_TOLD} more")
+    if left_out and differing:
+        say(f"the setup is full: of the rows of answers {left_out} found no room (docs/FORMATS.md, Setup file, has the limits)")
     tell_apart(unit, differing)
     for line in verdict.notes.splitlines():
         say(line)
@@ -321,7 +323,7 @@ def main(given: Optional[list[str]] = None) -> int:
                 refuse(words.program, path, room, words.interface)
             progress.at(0.2, "the exchanges")
             judge = Program(words.program, path, room, [it.name for it in unit.pairs], words.interface)
-            text, verdict = learned(unit, judge, plain(os.path.basename(words.capture)), progress)
+            text, verdict, left_out = learned(unit, judge, plain(os.path.basename(words.capture)), progress)
         except NoTester as fault:
             say(str(fault))
             return NOTHING
@@ -345,7 +347,7 @@ def main(given: Optional[list[str]] = None) -> int:
         # (what is left isn't tried again at the exit)
         sys.stdout = None
         return 7
-    tell(verdict, unit)
+    tell(verdict, unit, left_out)
     tell_broken(unit.sending.broken)
     return verdict.status if verdict.status in (DIFFERS, NOTHING) else AGREES
 
