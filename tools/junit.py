@@ -150,7 +150,7 @@ def main() -> int:
         sys.stdout = None
         return CANNOT_WRITE
     if report.stray:
-        print(f"junit: {errors_of(report)[0]}", file=sys.stderr)
+        print(f"junit: {printable(errors_of(report)[0])}", file=sys.stderr)
     return report.status()
 
 
