@@ -7,11 +7,11 @@ stands.
 Example:
     tools/learn.py --pair 7E0:7E8=workshop --pair 7A0:7A8=end_of_line demo/other_unit.log > unit.toml
 
-CAPTURE is a recording of `candump -L`, or, where python-can is installed, one of ASC, BLF, TRC, CSV or MF4. The testers are
-the pairs that are given, or those that are found. A pair of which a frame is one of CAN FD talks by that, and so does one
-that is given as REQUEST:RESPONSE:fd=NAME. With `--interface` the frames of one interface count. With `--varies` an
-identifier that was read with different values, and seeds that differ, aren't compared; without it their values come one
-after the other, round and round.
+CAPTURE is a recording of `candump -L`, or, where python-can is installed, one of ASC, BLF, TRC, CSV or MF4, or a data base of
+python-can (.db). The testers are the pairs that are given, or those that are found. A pair of which a frame is one of CAN FD
+talks by that, and so does one that is given as REQUEST:RESPONSE:fd=NAME. With `--interface` the frames of one interface
+count. With `--varies` an identifier that was read with different values, and seeds that differ, aren't compared; without it
+their values come one after the other, round and round.
 
 The judge is `compare` of the program that ./uds_play starts: a setup is made, compared with the recording, and what differs
 becomes rows of answers, until nothing differs or nothing gets better. The status is 0 where nothing differs; 8 where
