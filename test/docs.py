@@ -10,7 +10,8 @@ In a document a block is what is indented by four spaces, or stands between line
 
 - the lines of a command, where the first one begins with one of RUN, OTHERS or STAND_INS; a program of OTHERS that isn't
   there is installed where the environment has INSTALL_PACKAGES, and else the block is passed over, and a line says so;
-  those of STAND_INS want a CAN bus, and a script of two lines stands in for each;
+  those of STAND_INS want a CAN bus, and a script of two lines stands in for each; those of WIRESHARK are run where they
+  are there;
 - a program, where the word `python` stands behind the backticks;
 - what stands in a file, where the text before it ends with the file's name in backticks and a colon; after `Add to`
   it is put behind what the file has;
@@ -48,8 +49,10 @@ RUN = ("./uds_play", "tools/", "test/", "dev/", "LC_ALL=C sort ", "sed ", "diff 
 STAND_INS = {"candump": "sed -n 1,10p demo/bus.log", "canplayer": "cat"}
 # programs that a machine may not have, with Debian's packages of them
 OTHERS = {"asc2log": "can-utils", "log2asc": "can-utils", "can_logconvert": "python3-can"}
+# programs that are much to install: their commands are run where they are there
+WIRESHARK = ("editcap", "tshark")
 NOT_RUN = {
-    "mergecap ": "it wants Wireshark, which is much to install",
+    "editcap ": "it wants Wireshark, which is much to install",
     "tshark ": "it wants Wireshark, which is much to install",
     "bench/": "it wants the executables of two states of the repository",
 }
@@ -79,7 +82,8 @@ class Block:
 
     def is_command(self):
         word = first_word(self.lines[0])
-        return bool(self.language) or self.lines[0].startswith(RUN) or word in OTHERS or word in STAND_INS
+        is_there = word in WIRESHARK and shutil.which(word) is not None
+        return bool(self.language) or self.lines[0].startswith(RUN) or word in OTHERS or word in STAND_INS or is_there
 
     def has_command(self):
         return any(line.startswith(("./uds_play", "tools/", "test/", "dev/")) for line in self.lines)

@@ -90,6 +90,14 @@ def by_schema() -> None:
         told([int(root.get(key)) for key in ("tests", "failures", "errors")] == sums, f"the sums: {name}", root.attrib)
 
 
+def line_ends() -> None:
+    """A text with CRLF gives the same report; another control character is seen where it is told."""
+    for name, text, *_ in TEXTS:
+        told(report(text.replace("\n", "\r\n")) == report(text), f"with CRLF: {name}", report(text.replace("\n", "\r\n")))
+    _, ended, tells = report(AGREES + "A 1 exchanges, 0 differ\r\r\n")
+    told((ended, tells) == (3, "junit: line 2 of standard input is none of compare's: A 1 exchanges, 0 differ?\n"), "a CR too many", tells)
+
+
 def words() -> None:
     """What a failure says, and when an exchange was."""
     root = ElementTree.fromstring(report(TEXTS[1][1])[0])
@@ -157,7 +165,7 @@ def by_parser() -> None:
 
 def main() -> int:
     told.needs_program()
-    for group in (by_schema, words, of_program, of_the_end, by_parser):
+    for group in (by_schema, line_ends, words, of_program, of_the_end, by_parser):
         group()
     return told.ended()
 

@@ -476,6 +476,10 @@ class OfTheBus(unittest.TestCase):
 
     def test_long_answers_are_answers(self) -> None:
         self.assertEqual(["7E1:7E9"], self.pairs("7E1#0322F190", "7E9#101462F190000000"))
+        self.assertEqual(["7E1:7E9"], self.pairs("7E1#0322F190", "7E9#10000000138B62F1"))
+        self.assertEqual(["7E1:7E9"], self.pairs("7E1#10000000138B3601", "7E9#027601"))
+        # (one that breaks off before its message)
+        self.assertEqual([], self.pairs("7E1#0322F190", "7E9#10000000138B", "7E9#1000"))
 
     def test_a_functional_identifier_is_of_no_pair(self) -> None:
         frames = ["700#023E00", "77A#027E00", "77B#027E00", "710#023E00", "77A#027E00", "711#023E00", "77B#027E00"] * 2
@@ -507,12 +511,13 @@ class OfTheBus(unittest.TestCase):
         pair = [learn_bus.Pair(0x7E0, 0x7E8, is_fd=True)]
         single = f"7E8##A001462F190{'41' * 17}5555"
         found = learn_bus.sending_of(self.lines("7E0##A0322F190", single, "7E8##A037F2231", "7E8##2300000"), pair)
-        self.assertEqual((None, 0x55, 24, 10), (found.pad, found.fill, found.tx_dl, found.flags))
+        self.assertEqual((None, 0x55, None, 10), (found.pad, found.fill, found.tx_dl, found.flags))
         found = learn_bus.sending_of(self.lines(single, "7E8##5037F2231AAAAAAAA", f"7E8##51014{'41' * 30}", "7E8#037F2231AAAAAAAA"), [learn_bus.Pair(0x7E0, 0x7E8)])
-        self.assertEqual((0xAA, None, 8, 1), (found.pad, found.fill, found.tx_dl, found.flags))
+        self.assertEqual((0xAA, None, None, 1), (found.pad, found.fill, found.tx_dl, found.flags))
         self.assertEqual(0x55, learn_bus.sending_of(self.lines(single), pair).pad)
         # (a length that there isn't is a fault of the recording, which the program tells)
-        self.assertEqual(12, learn_bus.sending_of(self.lines("7E8##1" + "00" * 9), pair).tx_dl)
+        self.assertEqual(12, learn_bus.sending_of(self.lines("7E8##11014" + "00" * 7), pair).tx_dl)
+        self.assertEqual(8, learn_bus.sending_of(self.lines(single, f"7E8##11014{'41' * 6}", f"7E8##121{'41' * 7}"), pair).tx_dl)
 
     def test_broken_messages_of_can_fd(self) -> None:
         pair = [learn_bus.Pair(0x7E0, 0x7E8, is_fd=True)]
@@ -653,9 +658,25 @@ class OfRecordings(unittest.TestCase):
                 lines = recording(seed, is_fd=True)
                 found, pairs = learned_of(lines), {"7E8", "7E9", "77A", "77B", "18DAF110", "18DAF210"}
                 self.assertEqual((0, ""), (found.status, re.sub("learn: .* pairs are taken .*\n", "", found.told)))
-                lengths = [len(data) // 2 for identifier, data in re.findall(r" ([0-9A-F]+)##5([0-9A-F]*)", lines) if identifier in pairs]
-                self.assertEqual((max(8, *lengths), 5), (found.tree()["tx_dl"], found.tree()["fd_flags"]))
+                firsts = {len(data) // 2 for identifier, data in re.findall(r" ([0-9A-F]+)##5(1[0-9A-F]*)", lines) if identifier in pairs}
+                self.assertEqual((firsts or {64}, 5), ({found.tree()["tx_dl"]}, found.tree()["fd_flags"]))
+                self.assertEqual(not firsts, "tx_dl = 64  # no FirstFrame told it\n" in found.text)
                 self.assertTrue(all(it["fd"] for it in found.tree()["tester"]))
+
+    def test_single_frames_of_can_fd_alone(self) -> None:
+        """They are as short as they can be, so the greatest length verifies them all."""
+        for size in (3, 4, 5, 8, 20, 59):
+            message = f"62F190{'41' * size}"
+            length = next(it for it in LENGTHS if it >= size + (4 if size < 5 else 5))
+            answer = f"{size + 3:02X}{message}" if size < 5 else f"00{size + 3:02X}{message}"
+            lines = frames((0, "7E0##10322F190"), (3, f"7E8##1{answer.ljust(2 * length, 'C')}"), (50, "7E0##1023E00"), (53, "7E8##1027E00CCCCCCCCCC"), (90, "123#00"))
+            found = learned_of(lines)
+            self.assertEqual((0, 64), (found.status, found.tree()["tx_dl"]))
+            self.assertIn("tx_dl = 64  # no FirstFrame told it\n", found.text)
+            with tempfile.TemporaryDirectory() as room:
+                words = [OPTIONS[1], "verify", put(f"{room}/unit.toml", found.text), put(f"{room}/unit.log", lines)]
+                ran = subprocess.run(words, capture_output=True, text=True, timeout=60)
+            self.assertEqual((0, "tester_7E0 2 frames agree\n"), (ran.returncode, ran.stdout), ran.stderr)
 
     def test_a_classic_pair_beside_one_of_can_fd(self) -> None:
         """They can't have one functional identifier."""
@@ -665,7 +686,17 @@ class OfRecordings(unittest.TestCase):
             found = learned_of(frames(*((at * 100, it) for at, it in enumerate([*asks, functional]))))
             self.assertEqual((0, [True, None]), (found.status, [it.get("fd") for it in found.tree()["tester"]]), found.told)
             self.assertEqual(own, [it.get("functional") for it in found.tree()["tester"]], functional)
-            self.assertEqual((24, 0xCC, [{"id": 0xF190, "value": value}]), (found.tree()["tx_dl"], found.tree()["pad_byte"], found.tree()["did"]))
+            other, one = ("CAN FD", "classic CAN") if own[1] else ("classic CAN", "CAN FD")
+            self.assertIn(f"functional = 0x7FF  # a free one: 7DF is of {other} here, and a tester by {one} can't have it, too\n", found.text)
+            self.assertEqual((64, 0xCC, [{"id": 0xF190, "value": value}]), (found.tree()["tx_dl"], found.tree()["pad_byte"], found.tree()["did"]))
+
+    def test_both_are_asked_by_one_functional_identifier(self) -> None:
+        """The answers of the one that can't have it are told as unasked, with the reason."""
+        asks = ["7E0##10322F190", "7E8##1037F2231", "7E1#023E00", "7E9#027E00", "7DF##1023E00", "7E8##1027E00", "7E9#027E00"]
+        found = learned_of(frames(*((at * 100, it) for at, it in enumerate(asks))))
+        why = "7DF is of CAN FD here, and a tester by classic CAN can't have it, too"
+        told = f"learn: line 7: tester_7E1 was sent 7E00 which nobody asked for\nlearn: what tester_7E1 was sent to functional requests counts as unasked: {why}\n"
+        self.assertEqual((8, True), (found.status, found.told.endswith(told)), found.told)
 
     def test_the_demo(self) -> None:
         for name in ("bus.log", "other_unit.log"):
@@ -702,15 +733,24 @@ class OfRecordings(unittest.TestCase):
         for interface, value in (("can0", "0203"), ("can1", "0204")):
             found = learned_of(both, "--interface", interface)
             self.assertEqual((0, "", [{"id": 0xF195, "value": value}]), (found.status, found.told, found.tree()["did"]))
-        self.assertEqual(9, self.told(both, "--interface", "can.")[0])
+        told = 'learn: uds_play: note: no line of the interface can. was seen: can0 2, can1 2\n'
+        self.assertEqual((9, told), self.told(both, "--interface", "can."))
 
     def test_an_answer_too_long_for_a_row(self) -> None:
         message = "620101" + "41" * 4997
         rest = [f"7E8#2{number % 16:X}{message[at : at + 14]}" for number, at in enumerate(range(4, len(message), 14), 1)]
-        found = learned_of(frames((0, "7E0#03220101"), (1, f"7E8#100000001388{message[:4]}"), (2, "7E0#300000"), *((3, it) for it in rest)), "--pair", "7E0:7E8=A")
+        lines = frames((0, "7E0#03220101"), (1, f"7E8#100000001388{message[:4]}"), (2, "7E0#300000"), *((3, it) for it in rest))
+        found = learned_of(lines, "--pair", "7E0:7E8=A")
         shown = f"{message[:48]}.. (5000 bytes)"
         told = f"learn: line 1: A was sent {shown} to 220101, expected 7F2231; no row has an answer of more than 4095 bytes\n"
         self.assertEqual((8, told), (found.status, found.told))
+        self.assertEqual((8, found.text), (learned_of(lines).status, learned_of(lines).text.replace("tester_7E0", "A")))
+
+    def test_more_rows_than_a_setup_has(self) -> None:
+        steps = [(at * 20, at) for at in range(1030)]
+        found = learned_of(frames(*((ms + back, line) for ms, at in steps for back, line in ((0, f"7E0#0323{at:04X}"), (3, f"7E8#0363{at * 7 % 65521:04X}")))))
+        self.assertEqual((8, 1024), (found.status, len(rows_of(found))))
+        self.assertIn("learn: the setup is full: of the rows of answers 6 found no room (docs/FORMATS.md, Setup file, has the limits)\n", found.told)
 
     def test_a_wrong_key_where_seeds_vary(self) -> None:
         """The wrong key has a row, and nothing else does: behind the right one the level is unlocked."""
@@ -844,6 +884,38 @@ class OfOtherForms(unittest.TestCase):
                         out(it)
                 found = learned(path)
             self.assertEqual((0, want), (found.status, found.tree()), form)
+
+
+    def test_what_is_not_of_its_form(self) -> None:
+        """It is told, with the status of a file that can't be read."""
+        line = b"(1763800000.100000) can0 7E0#023E00\n"
+        for name, data, words in (
+            ("cut.blf", b"", "python-can can't read it: "),
+            ("none.trc", b"", "python-can can't read it: "),
+            ("junk.asc", b"\x98\xff\n", "python-can can't read it: "),
+            ("junk.csv", b"a\nb\n", "python-can can't read it: "),
+            ("none.db", b"", "python-can can't read it: "),
+            ("none.mf4", b"", "python-can can't read it: "),
+            ("candump.asc", line, "by its first line it is a log of candump -L; "),
+            ("candump.blf", line, "by its first line it is a log of candump -L; "),
+        ):
+            with self.subTest(name), tempfile.TemporaryDirectory() as room:
+                with open(f"{room}/{name}", "wb") as it:
+                    it.write(data)
+                found = learned(f"{room}/{name}")
+                self.assertEqual((7, ""), (found.status, found.text), found.told)
+                self.assertTrue(found.told.startswith(f"learn: {room}/{name}: {words}") or "wants python-can" in found.told, found.told)
+
+    def test_a_data_base_that_is_not_there_is_not_made(self) -> None:
+        with tempfile.TemporaryDirectory() as room:
+            found = learned(f"{room}/none.db")
+            self.assertEqual((7, "", []), (found.status, found.text, os.listdir(room)))
+            self.assertIn("No such file", found.told)
+
+    def test_a_recording_without_frames_is_told(self) -> None:
+        with tempfile.TemporaryDirectory() as room:
+            found = learned(put(f"{room}/none.csv", "timestamp,arbitration_id,extended,remote,error,dlc,data\n"))
+        self.assertTrue(found.status == 9 and "python-can finds no frame in it\n" in found.told or "wants python-can" in found.told, found.told)
 
 
 class OnABus(unittest.TestCase):

@@ -399,6 +399,18 @@ def parted(_):
         told(text_of(setup, f"diag-journal 1\n1 P {journal}\n") == f"0.000 A  {want}\n", f"parts: {want}", text_of(setup, f"diag-journal 1\n1 P {journal}\n"))
 
 
+def line_ends(room):
+    """Texts whose lines end with CRLF are shown as the others: runs, their frames, comparisons."""
+    setup, demo = whole(f"{TOP}/demo/setup.toml"), [f"{TOP}/demo/setup.toml", f"{TOP}/demo/bus.log"]
+    for name, text in [
+        ("frames", run("bus", *demo)),
+        ("a journal", run("bus", "--journal", *demo)),
+        ("a run", run("serial", "--stamps", demo[0], f"{TOP}/demo/workshop.log", f"{TOP}/demo/end_of_line.log")),
+        ("a comparison", comparison(room, spoilt())),
+    ]:
+        told(text_of(setup, text.replace("\n", "\r\n")) == text_of(setup, text) != "", f"with CRLF: {name}")
+
+
 def faults(room):
     """What isn't of a run is told, and the place."""
     config, journal = f"{TOP}/runs/setup.toml", "diag-journal 1\n1 P 3E00 7E00\n"
@@ -708,7 +720,7 @@ def main():
     if sys.argv[1:] == ["--pictures"]:
         return make_pictures()
     told.needs_program()
-    told.in_rooms(names, texts, lines_a_step, sessions, silence, late, beside, parted, faults, pages)
+    told.in_rooms(names, texts, lines_a_step, sessions, silence, late, beside, parted, line_ends, faults, pages)
     return told.ended()
 
 

@@ -9,7 +9,8 @@ The status is the one that the text tells: 0 where nothing differs, 8 where some
 green either. The status is 7 where the report couldn't be written, and 1 where a word stands behind the tool's name.
 
 An exchange that is ignored is a test case that was skipped. A test case is called as its request, the second of the same
-` (2)` behind it, so a build server follows it from one recording of a sequence to the next. No part of what is proved."""
+` (2)` behind it, so a build server follows it from one recording of a sequence to the next: of the whole text, for with
+`--differences` these numbers are of what differs alone. No part of what is proved."""
 import os
 import signal
 import sys
@@ -150,7 +151,7 @@ def main() -> int:
         sys.stdout = None
         return CANNOT_WRITE
     if report.stray:
-        print(f"junit: {errors_of(report)[0]}", file=sys.stderr)
+        print(f"junit: {printable(errors_of(report)[0])}", file=sys.stderr)
     return report.status()
 
 

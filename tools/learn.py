@@ -7,11 +7,11 @@ stands.
 Example:
     tools/learn.py --pair 7E0:7E8=workshop --pair 7A0:7A8=end_of_line demo/other_unit.log > unit.toml
 
-CAPTURE is a recording of `candump -L`, or, where python-can is installed, one of ASC, BLF, TRC, CSV or MF4. The testers are
-the pairs that are given, or those that are found. A pair of which a frame is one of CAN FD talks by that, and so does one
-that is given as REQUEST:RESPONSE:fd=NAME. With `--interface` the frames of one interface count. With `--varies` an
-identifier that was read with different values, and seeds that differ, aren't compared; without it their values come one
-after the other, round and round.
+CAPTURE is a recording of `candump -L`, or, where python-can is installed, one of ASC, BLF, TRC, CSV or MF4, or a data base of
+python-can (.db). The testers are the pairs that are given, or those that are found. A pair of which a frame is one of CAN FD
+talks by that, and so does one that is given as REQUEST:RESPONSE:fd=NAME. With `--interface` the frames of one interface
+count. With `--varies` an identifier that was read with different values, and seeds that differ, aren't compared; without it
+their values come one after the other, round and round.
 
 The judge is `compare` of the program that ./uds_play starts: a setup is made, compared with the recording, and what differs
 becomes rows of answers, until nothing differs or nothing gets better. The status is 0 where nothing differs; 8 where
@@ -34,13 +34,15 @@ from learn_bus import FUNCTIONAL, FUNCTIONAL_29, MOST_TESTERS, Broken, Pair, Sen
 from learn_judge import AGREES, DIFFERS, NOTHING, Exchange, Judge, Program, Refused, Verdict
 from learn_model import learn_model
 from learn_rows import MOST_BYTES, Plan
-from learn_setup import Unit, setup_text
+from learn_setup import Unit, is_apart, setup_text, why_apart
 
 TOP = os.path.dirname(os.path.dirname(os.path.abspath(__file__)))
 PROGRAM = f"{TOP}/crates/uds_play/out/uds_play"
 # where Debian's packages stand, for a Python that isn't Debian's
 DEBIAN = "/usr/lib/python3/dist-packages"
 OTHERS = (".asc", ".blf", ".trc", ".csv", ".mf4", ".db")
+# how a line of `candump -L` begins
+OF_CANDUMP = re.compile(rb"\(\d+\.\d+\) +\S+ +[0-9A-Fa-f]+#")
 # so much of a recording is read at a time
 BLOCK = 1 << 22
 # the most rounds, and how many of them may bring nothing
@@ -96,13 +98,30 @@ def converted(path: str, room: str) -> str:
         return f"{room}/capture.log"
     if not path.lower().endswith(OTHERS):
         return path
+    # (python-can makes a data base that isn't there)
+    with open(path, "rb") as it:
+        if OF_CANDUMP.match(it.readline(100)):
+            raise OSError(f"{path}: by its first line it is a log of candump -L; give it a name that ends in .log")
+    read_by_python_can(path, f"{room}/capture.log")
+    if not os.path.getsize(f"{room}/capture.log"):
+        say(f"{path}: python-can finds no frame in it")
+    return f"{room}/capture.log"
+
+
+def read_by_python_can(path: str, log: str) -> None:
+    """Writes a recording of another form as a log. OSError where it can't be read; ImportError where python-can isn't there."""
     if os.path.isdir(f"{DEBIAN}/can") and DEBIAN not in sys.path:
         sys.path.append(DEBIAN)
     import can  # pylint: disable=import-outside-toplevel
 
-    with can.LogReader(path) as messages, open(f"{room}/capture.log", "w", encoding="ascii") as out:
-        out.writelines(line_of(it) for it in messages)
-    return f"{room}/capture.log"
+    try:
+        with can.LogReader(path) as messages, open(log, "w", encoding="ascii") as out:
+            out.writelines(line_of(it) for it in messages)
+    except OSError:
+        raise
+    except Exception as fault:  # pylint: disable=broad-except
+        # (a file of another form, or a part of one, may raise anything there)
+        raise OSError(f"{path}: python-can can't read it: {fault}") from None
 
 
 def line_of(message) -> str:
@@ -154,8 +173,8 @@ def count_of(verdict: Verdict) -> int:
     return len(verdict.differing())
 
 
-def learned(unit: Unit, judge: Judge, source: str, progress: Progress) -> tuple[str, Verdict]:
-    """The setup by which the fewest exchanges differ, and what the judge says of it."""
+def learned(unit: Unit, judge: Judge, source: str, progress: Progress) -> tuple[str, Verdict, int]:
+    """The setup by which the fewest exchanges differ, what the judge says of it, and how many rows found no room in it."""
     exchanges = judge(setup_text(unit, source)).exchanges
     progress.at(0.3, "the model")
     learn_model(unit, exchanges)
@@ -169,7 +188,7 @@ def learned(unit: Unit, judge: Judge, source: str, progress: Progress) -> tuple[
         verdict = judge(text)
         progress.at(0.4 + 0.6 * number / MOST_ROUNDS, f"{count_of(verdict)} exchanges differ")
         idle = 0 if best is None or count_of(verdict) < count_of(best[1]) else idle + 1
-        best = (text, verdict) if idle == 0 else best
+        best = (text, verdict, plan.left_out) if idle == 0 else best
         if verdict.status != DIFFERS or idle > MOST_IDLE or not plan.widen(verdict.exchanges):
             break
         unit.rows = plan.rows(unit, verdict.exchanges)
@@ -181,15 +200,26 @@ def is_too_long(it: Exchange) -> bool:
     return len(it.sent or b"") > MOST_BYTES
 
 
-def tell(verdict: Verdict, varies: bool) -> None:
-    """Tells what differs."""
+def tell_apart(unit: Unit, differing: list[Exchange]) -> None:
+    """Tells why a tester that doesn't have the functional identifier sent what nobody asked for."""
+    for place in sorted({it.place for it in differing if it.kind == "U"}):
+        pair = unit.pairs[place]
+        if is_apart(unit, pair):
+            say(f"what {pair.name} was sent to functional requests counts as unasked: {why_apart(unit, pair)}")
+
+
+def tell(verdict: Verdict, unit: Unit, left_out: int) -> None:
+    """Tells what differs, by so many rows that found no room."""
     differing = verdict.differing()
-    if not varies and any(it.request[:1] == b"\x22" and not is_too_long(it) for it in differing):
+    if not unit.varies and any(it.request[:1] == b"\x22" and not is_too_long(it) for it in differing):
         say("with --varies the values that change aren't compared")
     for it in differing[:MOST_TOLD]:
         say(f"{it.told()}{f'; no row has an answer of more than {MOST_BYTES} bytes' if is_too_long(it) else ''}")
     if len(differing) > MOST_TOLD:
         say(f"and {len(differing) - MOST_TOLD} more")
+    if left_out and differing:
+        say(f"the setup is full: of the rows of answers {left_out} found no room (docs/FORMATS.md, Setup file, has the limits)")
+    tell_apart(unit, differing)
     for line in verdict.notes.splitlines():
         say(line)
     if verdict.status == NOTHING:
@@ -210,14 +240,15 @@ def tell_broken(broken: Broken) -> None:
 
 
 class NoTester(Exception):
-    """There is no tester in a recording."""
+    """There is no tester in a recording; with what helps."""
 
 
-def refuse(program: str, path: str, room: str) -> None:
+def refuse(program: str, path: str, room: str, interface: Optional[str]) -> None:
     """Has the program tell what is wrong with a recording in which no tester is found; NoTester where it takes it."""
     pair = Pair(0x7E0, 0x7E8, name="tester")
-    Program(program, path, room, [pair.name])(setup_text(Unit([pair], None, Sending()), ""))
-    raise NoTester
+    verdict = Program(program, path, room, [pair.name], interface)(setup_text(Unit([pair], None, Sending()), ""))
+    lacking = (it for it in verdict.notes.splitlines() if "no line of the interface " in it)
+    raise NoTester(next(lacking, "no tester was found: --pair REQUEST:RESPONSE names one"))
 
 
 def unit_of(path: str, given: list[Pair], words: argparse.Namespace, progress: Progress) -> Unit:
@@ -289,12 +320,12 @@ def main(given: Optional[list[str]] = None) -> int:
             try:
                 unit = unit_of(path, pairs, words, progress)
             except NoTester:
-                refuse(words.program, path, room)
+                refuse(words.program, path, room, words.interface)
             progress.at(0.2, "the exchanges")
             judge = Program(words.program, path, room, [it.name for it in unit.pairs], words.interface)
-            text, verdict = learned(unit, judge, plain(os.path.basename(words.capture)), progress)
-        except NoTester:
-            say("no tester was found: --pair REQUEST:RESPONSE names one")
+            text, verdict, left_out = learned(unit, judge, plain(os.path.basename(words.capture)), progress)
+        except NoTester as fault:
+            say(str(fault))
             return NOTHING
         except OSError as fault:
             say(str(fault))
@@ -316,7 +347,7 @@ def main(given: Optional[list[str]] = None) -> int:
         # (what is left isn't tried again at the exit)
         sys.stdout = None
         return 7
-    tell(verdict, words.varies)
+    tell(verdict, unit, left_out)
     tell_broken(unit.sending.broken)
     return verdict.status if verdict.status in (DIFFERS, NOTHING) else AGREES
 

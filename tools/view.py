@@ -286,6 +286,11 @@ def read(path):
         return it.read().decode("utf-8", "replace")
 
 
+def read_lines(path):
+    """A text whose lines may end with CRLF, as they do once Windows had it."""
+    return read(path).replace("\r\n", "\n")
+
+
 def show_run(setup, run, title, as_text):
     """Writes a run, as text or as a page."""
     if as_text:
@@ -321,7 +326,7 @@ def main(given=None):
     title = given.title or " ".join("standard input" if it == "-" else os.path.basename(it) for it in given.run)
     try:
         setup = read_setup(read(given.setup))
-        texts = [(it, read(it)) for it in given.run]
+        texts = [(it, read_lines(it)) for it in given.run]
         if len(texts) == 1 and is_report(texts[0][1]):
             show_exchanges(setup, *texts[0], title, given.text)
         else:

@@ -125,9 +125,10 @@ def look(blocks: Iterable[str], interface: Optional[str] = None) -> Sight:
 
 
 def message_at(data: str) -> int:
-    """Where the message begins among the digits of a SingleFrame or a FirstFrame; 0 of a SingleFrame that hasn't all of it."""
+    """Where the message begins among the digits of a SingleFrame or a FirstFrame; 0 of a SingleFrame that hasn't all of it. The
+    length of a message of more than 4095 bytes stands in four bytes behind `10 00`."""
     if data[0] == "1":
-        return 4
+        return 12 if data[1:4] == "000" else 4
     at, size = (4, int(data[2:4], 16)) if data[:2] == "00" else (2, int(data[1]))
     return at if len(data) >= at + 2 * size else 0
 
@@ -249,8 +250,8 @@ class Broken:
 class Sending:
     """How the unit and its testers send: the padding byte, None for none; block size and STmin of the unit's flow control;
     the longest request; the longest time within a request, and from an answer's FirstFrame to its flow control, in
-    milliseconds; which messages of the unit are broken; and of its frames of CAN FD the greatest length, the flags, and the
-    byte that fills those of more than 8 bytes, None where none was seen."""
+    milliseconds; which messages of the unit are broken; and of its frames of CAN FD the length of FirstFrames, the flags, and
+    the byte that fills those of more than 8 bytes, None where none was seen."""
 
     pad: Optional[int] = 0xCC
     block_size: int = 0
@@ -259,7 +260,7 @@ class Sending:
     n_cr: int = 0
     n_bs: int = 0
     broken: Broken = field(default_factory=Broken)
-    tx_dl: int = 8
+    tx_dl: Optional[int] = None
     flags: int = 1
     fill: Optional[int] = None
 
@@ -303,22 +304,25 @@ def sending_of(blocks: Iterable[str], pairs: list[Pair], interface: Optional[str
 
 @dataclass
 class FdFrames:
-    """What was seen of the unit's frames of CAN FD: the greatest length, the flags, and what fills SingleFrames of more than
-    8 bytes."""
+    """What was seen of the unit's frames of CAN FD: the lengths of FirstFrames, for a SingleFrame is as short as it can be,
+    the flags, and what fills SingleFrames of more than 8 bytes."""
 
-    longest: int = 8
+    lengths: Counter = field(default_factory=Counter)
     flags: Counter = field(default_factory=Counter)
     fills: Counter = field(default_factory=Counter)
 
     def take(self, data: str, flags: str) -> None:
-        self.longest = max(self.longest, len(data) // 2)
+        if data[:1] == "1":
+            self.lengths[len(data) // 2] += 1
         self.flags[int(flags, 16)] += 1
         if len(data) > 16 and data[:2] == "00" and len(data) > 4 + 2 * int(data[2:4], 16):
             self.fills[int(data[-2:], 16)] += 1
 
     def settle(self, found: Sending) -> None:
         """What was seen most often counts."""
-        found.tx_dl = next((it for it in LENGTHS if it >= self.longest), LENGTHS[-1])
+        if self.lengths:
+            length = self.lengths.most_common(1)[0][0]
+            found.tx_dl = next((it for it in LENGTHS if it >= length), LENGTHS[-1])
         found.flags = self.flags.most_common(1)[0][0] if self.flags else found.flags
         found.fill = self.fills.most_common(1)[0][0] if self.fills else None
 

@@ -241,6 +241,8 @@ class Plan:
         self.differed: dict[bytes, set[Held]] = defaultdict(set)
         # services that the model lacks, whose requests share rows
         self.services: set[int] = set()
+        # how many of the latest rows found no room in a setup
+        self.left_out = 0
 
     def widen(self, exchanges: list[Exchange]) -> bool:
         """Takes in what differs; returns whether anything is explained in another way than before."""
@@ -278,7 +280,10 @@ class Plan:
             found += fewest(unit, own)
         found.sort(key=rank)
         room = MOST_TEXT - len(setup_text(replace(unit, rows=[]), ""))
-        return limited(found + late_rows(unit, cases, found), room)
+        found += late_rows(unit, cases, found)
+        kept = limited(found, room)
+        self.left_out = len(found) - len(kept)
+        return kept
 
 
 def rank(row: Row) -> tuple:

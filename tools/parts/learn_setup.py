@@ -4,7 +4,7 @@ import textwrap
 from dataclasses import dataclass, field
 from typing import Iterator, Optional
 
-from learn_bus import FUNCTIONAL, FUNCTIONAL_29, Pair, Sending
+from learn_bus import FUNCTIONAL, FUNCTIONAL_29, LENGTHS, Pair, Sending
 from uds_names import IDENTIFIERS, NEGATIVE, service_name, sub_name
 
 # the times of links that a setup has where it says nothing
@@ -176,7 +176,9 @@ def filling(unit: Unit) -> Iterator[str]:
     yield "pad = false\n" if sending.pad is None else ""
     yield f"pad_byte = 0x{byte:02X}\n" if byte is not None else ""
     if any(it.is_fd for it in unit.pairs):
-        yield f"tx_dl = {sending.tx_dl}\nfd_flags = 0x{sending.flags:X}\n"
+        # (with the greatest length all SingleFrames are as they were seen)
+        yield f"tx_dl = {sending.tx_dl}\n" if sending.tx_dl else f"tx_dl = {LENGTHS[-1]}  # no FirstFrame told it\n"
+        yield f"fd_flags = 0x{sending.flags:X}\n"
 
 
 def waits(sending: Sending) -> Iterator[str]:
@@ -194,11 +196,22 @@ def free_identifier(unit: Unit, is_extended: bool = False) -> int:
     return next(it for it in range(0x1FFFFFFF if is_extended else 0x7FF, 0, -1) if it not in own | {usual, seen})
 
 
-def own_functional(unit: Unit, pair: Pair) -> Optional[int]:
-    """The functional identifier that a tester's table has; None where it needs none. A tester of CAN FD and a classic one can't
-    have the same: one of them has a free one."""
+def is_apart(unit: Unit, pair: Pair) -> bool:
+    """Whether a tester has a functional identifier that nobody uses: one of CAN FD and a classic one can't have the same."""
     is_mixed = len({it.is_fd for it in unit.pairs if it.is_extended == pair.is_extended}) > 1
-    if is_mixed and pair.is_fd != unit.is_all_fd[pair.is_extended]:
+    return is_mixed and pair.is_fd != unit.is_all_fd[pair.is_extended]
+
+
+def why_apart(unit: Unit, pair: Pair) -> str:
+    """Why such a tester hasn't the functional identifier of the others, in words."""
+    shown = f"{unit.functional_29 or FUNCTIONAL_29:08X}" if pair.is_extended else f"{unit.functional or FUNCTIONAL:03X}"
+    other, own = ("classic CAN", "CAN FD") if pair.is_fd else ("CAN FD", "classic CAN")
+    return f"{shown} is of {other} here, and a tester by {own} can't have it, too"
+
+
+def own_functional(unit: Unit, pair: Pair) -> Optional[int]:
+    """The functional identifier that a tester's table has; None where it needs none."""
+    if is_apart(unit, pair):
         return free_identifier(unit, pair.is_extended)
     return unit.functional_29 if pair.is_extended and unit.functional_29 != FUNCTIONAL_29 else None
 
@@ -211,7 +224,8 @@ def tester_tables(unit: Unit) -> Iterator[str]:
         yield f"request = 0x{request}\nresponse = 0x{response}\n"
         functional = own_functional(unit, it)
         if functional is not None:
-            yield f"functional = 0x{functional:0{len(request)}X}\n"
+            why = f"  # a free one: {why_apart(unit, it)}" if is_apart(unit, it) else ""
+            yield f"functional = 0x{functional:0{len(request)}X}{why}\n"
         yield "fd = true\n" if it.is_fd else ""
 
 

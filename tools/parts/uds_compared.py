@@ -71,10 +71,10 @@ def read_exchange(found: re.Match) -> Compared:
 
 
 def read_report(lines: Iterable[str]) -> Report:
-    """The report of the lines that `compare` wrote."""
+    """The report of the lines that `compare` wrote; they may end with CRLF."""
     report = Report()
     for number, line in enumerate(lines, 1):
-        text = line.removesuffix("\n")
+        text = line.removesuffix("\n").removesuffix("\r")
         exchange, count = EXCHANGE.fullmatch(text), COUNT.fullmatch(text)
         if exchange and not report.counts:
             report.exchanges.append(read_exchange(exchange))
