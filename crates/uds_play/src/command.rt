@@ -237,7 +237,9 @@ fn live_command<'a>(alloc: Global) -> Result<Command<'a>, AllocError> {
 fn whole_command<'a>(alloc: Global) -> Result<Command<'a>, AllocError> {
     Command::new(alloc, "uds_play")
         .version(VERSION)
-        .about("The diagnostic server of an ECU, played over the logs of its testers")
+        .about(
+            "The diagnostic server of an ECU, for recordings, logs and live buses; without a command it plays an example",
+        )
         .disable_help_subcommand(true)
         .after_help("Example: uds_play bus demo/setup.toml demo/bus.log")
         .subcommand_required(true)
