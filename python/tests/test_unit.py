@@ -1,6 +1,8 @@
 """Tests of `uds_unit.Unit`: what it answers, and each fault. They want nothing but the library."""
 import os
+import tempfile
 import unittest
+from datetime import datetime, time, timedelta, timezone
 from pathlib import Path
 
 from uds_unit import ClosedFault, Frame, FrameFault, SetupFault, Unit, UnitFault, toml
@@ -19,6 +21,7 @@ LONG = b"""tester = [
     { name = "B", request = 0x7A0, response = 0x7A8 },
 ]
 did = [{ id = 0xF190, value = "3031323334353637383930313233343536" }]"""
+SEVEN, WEST = time(7, 32), timezone(timedelta(hours=-8))
 
 
 class UnitTests(unittest.TestCase):
@@ -164,6 +167,18 @@ class SetupTests(unittest.TestCase):
         with self.assertRaises(OSError):
             Unit("no_such_file.toml")
 
+    def test_too_long(self) -> None:
+        most = SETUP.read_bytes().ljust(1_048_576)
+        with tempfile.NamedTemporaryFile(suffix=".toml") as file:
+            file.write(most + b"\n")
+            file.flush()
+            for setup in (most + b"\n", file.name):
+                with self.assertRaisesRegex(SetupFault, "^config: too long$"):
+                    Unit(setup)
+            file.truncate(len(most))
+            for setup in (most, file.name):
+                Unit(setup).close()
+
     def test_kinds_of_setup(self) -> None:
         for setup in (str(SETUP), SETUP, os.fspath(SETUP), SETUP.read_bytes()):
             with Unit(setup) as unit:
@@ -171,6 +186,13 @@ class SetupTests(unittest.TestCase):
 
 
 class TomlTests(unittest.TestCase):
+    def test_what_python_does_not_read(self) -> None:
+        with Unit(b"x = 07:32\n" + WIDE) as unit:
+            self.assertEqual(unit.testers, ("A", "B"))
+        # (the library takes a leap second, and Python none)
+        with self.assertRaisesRegex(SetupFault, "^config: Python doesn't read this TOML: .*line 1, column 7"):
+            Unit(b"x = 23:59:60\n" + WIDE)
+
     def test_a_setup_of_toml_1_1(self) -> None:
         text = b"""tester = [
           {   # an inline table of several lines, with a comma at its end
@@ -190,6 +212,9 @@ class TomlTests(unittest.TestCase):
             ('s = "a\\x41\\e\\\\x41"\nt = \'\\x41\'\n', {"s": "aA\x1b\\x41", "t": "\\x41"}),
             ('s = """a\n\\x41 "" "\n\\""""\n[[x]]\ny = { }\n', {"s": 'a\nA "" "\n"', "x": [{"y": {}}]}),
             ("y = {\n b = \"}\\\"\",\n c = \'\'\'q\n,}\'\'\',\n}\n", {"y": {"b": '}"', "c": "q\n,}"}}),
+            ("a = 07:32\nb = '07:32' # 07:32\nc = [07:32,08:40:01]\n", {"a": SEVEN, "b": "07:32", "c": [SEVEN, time(8, 40, 1)]}),
+            ("a = 1979-05-27T07:32-08:00\n", {"a": datetime(1979, 5, 27, 7, 32, tzinfo=WEST)}),
+            ("a = [1979-05-27 07:32]\n", {"a": [datetime(1979, 5, 27, 7, 32)]}),
         ):
             self.assertEqual(toml.loads(text), wanted)
         for text in ("a = { b = 1,, }", "a = 1,\nb", "a = {\nb = 1", "[a\n]"):

@@ -17,6 +17,8 @@ LOW_29 = (1 << 29) - 1
 FUNCTIONAL, FUNCTIONAL_29 = 0x7DF, 0x18DB33F1
 MICRO = 1_000_000
 NEVER = 2**64 - 1
+# the most bytes of a setup, as the program has it
+MOST_SETUP = 1_048_576
 
 
 class Frame(NamedTuple):
@@ -38,6 +40,26 @@ class Frame(NamedTuple):
 
 def _microseconds(time: float) -> int:
     return min(max(round(time * MICRO), 0), NEVER)
+
+
+def read_setup(setup: str | os.PathLike[str] | bytes) -> bytes:
+    """The bytes of a setup: of a path, or these. SetupFault where they are more than the program takes."""
+    if isinstance(setup, bytes):
+        config = setup
+    else:
+        with open(setup, "rb") as file:
+            config = file.read(MOST_SETUP + 1)
+    if len(config) > MOST_SETUP:
+        raise SetupFault("config: too long")
+    return config
+
+
+def _tables(config: bytes) -> dict[str, Any]:
+    """The tables of a setup that the library took. SetupFault where Python doesn't."""
+    try:
+        return toml.loads(config.decode().removeprefix("\ufeff"))
+    except (ValueError, RecursionError) as fault:
+        raise SetupFault(f"config: Python doesn't read this TOML: {fault}") from fault
 
 
 def _fd_requests(setup: dict[str, Any]) -> Iterator[tuple[int, bool]]:
@@ -68,11 +90,7 @@ class Unit:
         # (looked up once, for they are wanted for each frame)
         self._frame, self._next = self._library.uds_unit_frame, self._library.uds_unit_next
         self._bytes = self._reply.bytes
-        if isinstance(setup, bytes):
-            config = setup
-        else:
-            with open(setup, "rb") as file:
-                config = file.read()
+        config = read_setup(setup)
         text = create_string_buffer(1024)
         call = self._library.uds_unit_open_with_journal if journal else self._library.uds_unit_open
         status = call(self._at, config, len(config), text, len(text))
@@ -80,7 +98,7 @@ class Unit:
             raise MemoryFault("memory")
         if status != DONE:
             raise SetupFault(text.value.decode().strip().removeprefix("uds_play: "))
-        tree = toml.loads(config.decode().removeprefix("\ufeff"))
+        tree = _tables(config)
         self.testers: tuple[str, ...] = tuple(tester["name"] for tester in tree["tester"])
         """The testers' names, in the order of the setup."""
         self.fd_requests: frozenset[tuple[int, bool]] = frozenset(_fd_requests(tree))
