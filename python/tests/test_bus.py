@@ -1,12 +1,14 @@
 """Tests of `uds_unit.bus` on a virtual bus, of the program, and of the fixtures. They want python-can, two of them scapy, and
 those of the fixtures pytest; a test that wants what isn't there is passed over."""
 import importlib.util
+import itertools
 import subprocess
 import sys
 import tempfile
 import time
 import unittest
 from pathlib import Path
+from unittest import mock
 
 SETUP = Path(__file__).resolve().parent.parent.parent / "demo/setup.toml"
 PACKAGE = str(Path(__file__).resolve().parent.parent)
@@ -123,6 +125,52 @@ class BusTests(unittest.TestCase):
             heard = self.near.recv(2)
         self.assertEqual((heard.is_fd, heard.bitrate_switch, heard.error_state_indicator), (True, True, False))
         self.assertEqual((heard.arbitration_id, heard.data.hex()), (0x7E8, "001462f190" + 17 * "30" + "cccc"))
+
+    def test_a_full_queue(self) -> None:
+        import can
+
+        # a frame in three is taken, as by an adapter whose queue is full
+        turns, send = itertools.cycle((False, False, True)), self.far.send
+
+        def take(message: can.Message) -> None:
+            if not next(turns):
+                raise can.CanOperationError("no room")
+            send(message)
+
+        with mock.patch.object(self.far, "send", take):
+            self.ask("0322F190")
+            self.assertEqual(self.hear(), "7E8#101462F190303030")
+            self.ask("300000")
+            self.assertEqual([self.hear() for _ in range(2)], ["7E8#2130303030303030", "7E8#2230303030303030"])
+        self.assertIsNone(self.unit.fault)
+
+    def test_a_bus_at_fault(self) -> None:
+        import can
+
+        full = can.CanOperationError("no room")
+        with mock.patch("uds_unit.bus.N_AS", 0.1), mock.patch.object(self.far, "send", side_effect=full) as send:
+            begun = time.monotonic()
+            self.ask("021003")
+            while self.unit.fault is None and time.monotonic() < begun + 5:
+                time.sleep(0.01)
+        self.assertGreaterEqual(time.monotonic() - begun, 0.1)
+        self.assertGreater(send.call_count, 2)
+        calls = [
+            lambda unit: unit.session,
+            lambda unit: unit.holder,
+            lambda unit: unit.values,
+            lambda unit: unit.codes,
+            lambda unit: unit.set_value(0xF195, b"\0\0"),
+            lambda unit: unit.set_code(0xC10000, 1),
+            lambda unit: unit.stop(),
+            lambda unit: unit.session,
+        ]
+        for call in calls:
+            with self.assertRaisesRegex(can.CanOperationError, "no room"):
+                call(self.unit)
+        self.assertIn(" 1 P 1003 5003003201F4\n", self.unit.journal())
+        # (or the one at the test's end raised it again)
+        self.unit.fault = None
 
     def test_others_frames(self) -> None:
         self.near.send(self.Message(arbitration_id=0x18DA00F1, data=b"\x02\x10\x03", is_extended_id=True))
