@@ -1,7 +1,10 @@
 """Tests of `uds_unit.bus` on a virtual bus, of the program, and of the fixtures. They want python-can, two of them scapy, and
 those of the fixtures pytest; a test that wants what isn't there is passed over."""
+import contextlib
 import importlib.util
+import io
 import itertools
+import shutil
 import subprocess
 import sys
 import tempfile
@@ -234,9 +237,53 @@ class ProgramTests(unittest.TestCase):
             ran = self.run_program("--interface", "virtual", "--channel", "x", "--seconds", "0.3", "--journal", f"{room}/j", str(SETUP))
             self.assertEqual((ran.returncode, ran.stdout, ran.stderr), (0, "", ""))
             self.assertTrue(Path(f"{room}/j").read_text().startswith("diag-journal 2\n"))
+            # a file that is there stays as it was, be it a journal or the setup itself
+            for path in (Path(f"{room}/j"), Path(shutil.copy(SETUP, room))):
+                before = path.read_bytes()
+                ran = self.run_program("--interface", "virtual", "--channel", "x", "--seconds", "0", "--journal", str(path), str(SETUP))
+                self.assertEqual((ran.returncode, ran.stdout, path.read_bytes()), (1, "", before))
+                self.assertEqual(ran.stderr, f"uds_unit: --journal {path}: there is such a file already, and it isn't overwritten\n")
             # a journal that can't be written is told at once, and not behind the run
             ran = self.run_program("--interface", "virtual", "--channel", "x", "--journal", f"{room}/none/j", str(SETUP))
             self.assertEqual((ran.returncode, "No such file" in ran.stderr), (1, True), ran.stderr)
+
+    def test_sigterm(self) -> None:
+        # (the signal comes while it waits)
+        code = (
+            "import os, signal, sys; from uds_unit import __main__ as it;"
+            "it.time.sleep = lambda _: os.kill(os.getpid(), signal.SIGTERM); sys.exit(it.main(sys.argv[1:]))"
+        )
+        with tempfile.TemporaryDirectory() as room:
+            words = ["--interface", "virtual", "--channel", "x", "--journal", f"{room}/j", str(SETUP)]
+            ran = subprocess.run([sys.executable, "-c", code, *words], cwd=PACKAGE, capture_output=True, text=True, timeout=60)
+            self.assertEqual((ran.returncode, ran.stdout, ran.stderr), (0, "", ""))
+            self.assertTrue(Path(f"{room}/j").read_text().startswith("diag-journal 2\n"))
+
+    def opened(self, setup: bytes, fault: Exception, *words: str) -> tuple[int, str, bool]:
+        """Where the bus has this fault: the program's status, its line, and whether it opened the bus for CAN FD."""
+        from uds_unit.__main__ import main
+
+        text = io.StringIO()
+        with tempfile.NamedTemporaryFile(suffix=".toml") as file:
+            file.write(setup)
+            file.flush()
+            with mock.patch("can.Bus", side_effect=fault) as bus, mock.patch("signal.signal"), contextlib.redirect_stderr(text):
+                status = main(["--interface", "it", "--channel", "x", *words, file.name])
+        return status, text.getvalue(), bus.call_args.kwargs.get("fd", False)
+
+    def test_a_bus_that_can_not_be_opened(self) -> None:
+        classic, by_fd = SETUP.read_bytes(), b'tester = [{ name = "A", request = 1, response = 2, fd = true }]'
+        with tempfile.TemporaryDirectory() as room:
+            for fault in (NameError("no canlib"), TypeError("2 missing"), ImportError("no ics")):
+                status, line, _ = self.opened(classic, fault, "--journal", f"{room}/j")
+                self.assertEqual((status, line.count("\n")), (1, 1), line)
+                self.assertTrue(line.startswith(f"uds_unit: --interface it: {type(fault).__name__}: {fault} ("), line)
+                # (no empty file is left, by which the next run would be refused)
+                self.assertFalse(Path(f"{room}/j").exists())
+        no_device = OSError("no device")
+        self.assertEqual(self.opened(classic, no_device), (1, "uds_unit: no device\n", False))
+        self.assertEqual(self.opened(classic, no_device, "--fd"), (1, "uds_unit: no device\n", True))
+        self.assertEqual(self.opened(by_fd, no_device), (1, "uds_unit: no device\n", True))
 
     def test_faults(self) -> None:
         with tempfile.NamedTemporaryFile("w", suffix=".toml") as it:
