@@ -313,15 +313,28 @@ def test_bad(uds_unit):
 
 @unittest.skipUnless(has("can", "pytest"), "python-can and pytest aren't both installed")
 class FixtureTests(unittest.TestCase):
+    def run_pytest(self, *words: str) -> subprocess.CompletedProcess[str]:
+        own = [sys.executable, "-m", "pytest", "-q", "-p", "uds_unit.pytest_plugin", "-p", "no:cacheprovider"]
+        return subprocess.run([*own, *words], cwd=PACKAGE, capture_output=True, text=True, timeout=120)
+
     def test_fixture(self) -> None:
         with tempfile.TemporaryDirectory() as room:
             Path(f"{room}/test_it.py").write_text(TESTS)
             Path(f"{room}/pytest.ini").write_text(f"[pytest]\nuds_setup = {SETUP}\n")
-            words = [sys.executable, "-m", "pytest", "-q", "-p", "uds_unit.pytest_plugin", "-p", "no:cacheprovider", room]
-            ran = subprocess.run(words, cwd=PACKAGE, capture_output=True, text=True, timeout=120)
+            ran = self.run_pytest(room)
             self.assertIn("1 failed, 1 passed", ran.stdout, ran.stdout + ran.stderr)
             self.assertIn("journal of the unit", ran.stdout)
             self.assertIn(" 1 P 1003 5003003201F4", ran.stdout)
+
+    def test_the_folder_of_the_ini_file(self) -> None:
+        with tempfile.TemporaryDirectory() as room:
+            sub = Path(room, "sub")
+            sub.mkdir()
+            shutil.copy(SETUP, sub)
+            Path(room, "test_it.py").write_text(TESTS)
+            Path(sub, "pytest.ini").write_text(f"[pytest]\nuds_setup = {SETUP.name}\n")
+            ran = self.run_pytest("-k", "test_good", "--rootdir", room, "-c", f"{sub}/pytest.ini", f"{room}/test_it.py")
+            self.assertIn("1 passed", ran.stdout, ran.stdout + ran.stderr)
 
 
 if __name__ == "__main__":
