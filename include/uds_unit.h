@@ -73,7 +73,7 @@ struct uds_code {
 
 /* Opens a unit of a setup in TOML (len bytes); a unit that was open is freed first. Where the setup is at fault (UDS_SETUP),
  * or there is no memory, the unit isn't open, and text gets the line that the program tells, ended by a 0, as far as it
- * fits into room bytes. */
+ * fits into room bytes. Where the line and its 0 have more bytes than that, no 0 ends the text. */
 uint32_t uds_unit_open(struct uds_unit *unit, const uint8_t *config, size_t len, uint8_t *text, size_t room);
 
 /* The same, and the unit keeps the lines of its journal until uds_unit_journal hands them out. */
@@ -85,7 +85,8 @@ uint32_t uds_unit_open_with_journal(struct uds_unit *unit, const uint8_t *config
  * is no tester's, or is too long for its tester, only lets the time pass. UDS_NO_FRAME: nothing was taken, no time either. */
 uint32_t uds_unit_frame(struct uds_unit *unit, uint64_t at_us, uint32_t id, const uint8_t *bytes, size_t len);
 
-/* Lets time pass to a moment, with no frame. */
+/* Lets time pass to a moment, with no frame. A long step, here as of uds_unit_frame, takes time in proportion to it and, with a
+ * journal, memory: a line a minute for each tester. */
 uint32_t uds_unit_pass(struct uds_unit *unit, uint64_t to_us);
 
 /* Hands out the next frame that is due up to the latest moment, in the order of the bus; UDS_NONE where there is none: the

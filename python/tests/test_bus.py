@@ -1,12 +1,17 @@
 """Tests of `uds_unit.bus` on a virtual bus, of the program, and of the fixtures. They want python-can, two of them scapy, and
 those of the fixtures pytest; a test that wants what isn't there is passed over."""
+import contextlib
 import importlib.util
+import io
+import itertools
+import shutil
 import subprocess
 import sys
 import tempfile
 import time
 import unittest
 from pathlib import Path
+from unittest import mock
 
 SETUP = Path(__file__).resolve().parent.parent.parent / "demo/setup.toml"
 PACKAGE = str(Path(__file__).resolve().parent.parent)
@@ -124,6 +129,52 @@ class BusTests(unittest.TestCase):
         self.assertEqual((heard.is_fd, heard.bitrate_switch, heard.error_state_indicator), (True, True, False))
         self.assertEqual((heard.arbitration_id, heard.data.hex()), (0x7E8, "001462f190" + 17 * "30" + "cccc"))
 
+    def test_a_full_queue(self) -> None:
+        import can
+
+        # a frame in three is taken, as by an adapter whose queue is full
+        turns, send = itertools.cycle((False, False, True)), self.far.send
+
+        def take(message: can.Message) -> None:
+            if not next(turns):
+                raise can.CanOperationError("no room")
+            send(message)
+
+        with mock.patch.object(self.far, "send", take):
+            self.ask("0322F190")
+            self.assertEqual(self.hear(), "7E8#101462F190303030")
+            self.ask("300000")
+            self.assertEqual([self.hear() for _ in range(2)], ["7E8#2130303030303030", "7E8#2230303030303030"])
+        self.assertIsNone(self.unit.fault)
+
+    def test_a_bus_at_fault(self) -> None:
+        import can
+
+        full = can.CanOperationError("no room")
+        with mock.patch("uds_unit.bus.N_AS", 0.1), mock.patch.object(self.far, "send", side_effect=full) as send:
+            begun = time.monotonic()
+            self.ask("021003")
+            while self.unit.fault is None and time.monotonic() < begun + 5:
+                time.sleep(0.01)
+        self.assertGreaterEqual(time.monotonic() - begun, 0.1)
+        self.assertGreater(send.call_count, 2)
+        calls = [
+            lambda unit: unit.session,
+            lambda unit: unit.holder,
+            lambda unit: unit.values,
+            lambda unit: unit.codes,
+            lambda unit: unit.set_value(0xF195, b"\0\0"),
+            lambda unit: unit.set_code(0xC10000, 1),
+            lambda unit: unit.stop(),
+            lambda unit: unit.session,
+        ]
+        for call in calls:
+            with self.assertRaisesRegex(can.CanOperationError, "no room"):
+                call(self.unit)
+        self.assertIn(" 1 P 1003 5003003201F4\n", self.unit.journal())
+        # (or the one at the test's end raised it again)
+        self.unit.fault = None
+
     def test_others_frames(self) -> None:
         self.near.send(self.Message(arbitration_id=0x18DA00F1, data=b"\x02\x10\x03", is_extended_id=True))
         self.near.send(self.Message(arbitration_id=0x7E0, is_extended_id=False, is_remote_frame=True, dlc=3))
@@ -186,9 +237,53 @@ class ProgramTests(unittest.TestCase):
             ran = self.run_program("--interface", "virtual", "--channel", "x", "--seconds", "0.3", "--journal", f"{room}/j", str(SETUP))
             self.assertEqual((ran.returncode, ran.stdout, ran.stderr), (0, "", ""))
             self.assertTrue(Path(f"{room}/j").read_text().startswith("diag-journal 2\n"))
+            # a file that is there stays as it was, be it a journal or the setup itself
+            for path in (Path(f"{room}/j"), Path(shutil.copy(SETUP, room))):
+                before = path.read_bytes()
+                ran = self.run_program("--interface", "virtual", "--channel", "x", "--seconds", "0", "--journal", str(path), str(SETUP))
+                self.assertEqual((ran.returncode, ran.stdout, path.read_bytes()), (1, "", before))
+                self.assertEqual(ran.stderr, f"uds_unit: --journal {path}: there is such a file already, and it isn't overwritten\n")
             # a journal that can't be written is told at once, and not behind the run
             ran = self.run_program("--interface", "virtual", "--channel", "x", "--journal", f"{room}/none/j", str(SETUP))
             self.assertEqual((ran.returncode, "No such file" in ran.stderr), (1, True), ran.stderr)
+
+    def test_sigterm(self) -> None:
+        # (the signal comes while it waits)
+        code = (
+            "import os, signal, sys; from uds_unit import __main__ as it;"
+            "it.time.sleep = lambda _: os.kill(os.getpid(), signal.SIGTERM); sys.exit(it.main(sys.argv[1:]))"
+        )
+        with tempfile.TemporaryDirectory() as room:
+            words = ["--interface", "virtual", "--channel", "x", "--journal", f"{room}/j", str(SETUP)]
+            ran = subprocess.run([sys.executable, "-c", code, *words], cwd=PACKAGE, capture_output=True, text=True, timeout=60)
+            self.assertEqual((ran.returncode, ran.stdout, ran.stderr), (0, "", ""))
+            self.assertTrue(Path(f"{room}/j").read_text().startswith("diag-journal 2\n"))
+
+    def opened(self, setup: bytes, fault: Exception, *words: str) -> tuple[int, str, bool]:
+        """Where the bus has this fault: the program's status, its line, and whether it opened the bus for CAN FD."""
+        from uds_unit.__main__ import main
+
+        text = io.StringIO()
+        with tempfile.NamedTemporaryFile(suffix=".toml") as file:
+            file.write(setup)
+            file.flush()
+            with mock.patch("can.Bus", side_effect=fault) as bus, mock.patch("signal.signal"), contextlib.redirect_stderr(text):
+                status = main(["--interface", "it", "--channel", "x", *words, file.name])
+        return status, text.getvalue(), bus.call_args.kwargs.get("fd", False)
+
+    def test_a_bus_that_can_not_be_opened(self) -> None:
+        classic, by_fd = SETUP.read_bytes(), b'tester = [{ name = "A", request = 1, response = 2, fd = true }]'
+        with tempfile.TemporaryDirectory() as room:
+            for fault in (NameError("no canlib"), TypeError("2 missing"), ImportError("no ics")):
+                status, line, _ = self.opened(classic, fault, "--journal", f"{room}/j")
+                self.assertEqual((status, line.count("\n")), (1, 1), line)
+                self.assertTrue(line.startswith(f"uds_unit: --interface it: {type(fault).__name__}: {fault} ("), line)
+                # (no empty file is left, by which the next run would be refused)
+                self.assertFalse(Path(f"{room}/j").exists())
+        no_device = OSError("no device")
+        self.assertEqual(self.opened(classic, no_device), (1, "uds_unit: no device\n", False))
+        self.assertEqual(self.opened(classic, no_device, "--fd"), (1, "uds_unit: no device\n", True))
+        self.assertEqual(self.opened(by_fd, no_device), (1, "uds_unit: no device\n", True))
 
     def test_faults(self) -> None:
         with tempfile.NamedTemporaryFile("w", suffix=".toml") as it:
@@ -218,15 +313,28 @@ def test_bad(uds_unit):
 
 @unittest.skipUnless(has("can", "pytest"), "python-can and pytest aren't both installed")
 class FixtureTests(unittest.TestCase):
+    def run_pytest(self, *words: str) -> subprocess.CompletedProcess[str]:
+        own = [sys.executable, "-m", "pytest", "-q", "-p", "uds_unit.pytest_plugin", "-p", "no:cacheprovider"]
+        return subprocess.run([*own, *words], cwd=PACKAGE, capture_output=True, text=True, timeout=120)
+
     def test_fixture(self) -> None:
         with tempfile.TemporaryDirectory() as room:
             Path(f"{room}/test_it.py").write_text(TESTS)
             Path(f"{room}/pytest.ini").write_text(f"[pytest]\nuds_setup = {SETUP}\n")
-            words = [sys.executable, "-m", "pytest", "-q", "-p", "uds_unit.pytest_plugin", "-p", "no:cacheprovider", room]
-            ran = subprocess.run(words, cwd=PACKAGE, capture_output=True, text=True, timeout=120)
+            ran = self.run_pytest(room)
             self.assertIn("1 failed, 1 passed", ran.stdout, ran.stdout + ran.stderr)
             self.assertIn("journal of the unit", ran.stdout)
             self.assertIn(" 1 P 1003 5003003201F4", ran.stdout)
+
+    def test_the_folder_of_the_ini_file(self) -> None:
+        with tempfile.TemporaryDirectory() as room:
+            sub = Path(room, "sub")
+            sub.mkdir()
+            shutil.copy(SETUP, sub)
+            Path(room, "test_it.py").write_text(TESTS)
+            Path(sub, "pytest.ini").write_text(f"[pytest]\nuds_setup = {SETUP.name}\n")
+            ran = self.run_pytest("-k", "test_good", "--rootdir", room, "-c", f"{sub}/pytest.ini", f"{room}/test_it.py")
+            self.assertIn("1 passed", ran.stdout, ran.stdout + ran.stderr)
 
 
 if __name__ == "__main__":

@@ -1,6 +1,10 @@
 """Tests of `uds_unit.Unit`: what it answers, and each fault. They want nothing but the library."""
 import os
+import tempfile
+import threading
 import unittest
+from array import array
+from datetime import datetime, time, timedelta, timezone
 from pathlib import Path
 
 from uds_unit import ClosedFault, Frame, FrameFault, SetupFault, Unit, UnitFault, toml
@@ -19,6 +23,8 @@ LONG = b"""tester = [
     { name = "B", request = 0x7A0, response = 0x7A8 },
 ]
 did = [{ id = 0xF190, value = "3031323334353637383930313233343536" }]"""
+
+SEVEN, WEST = time(7, 32), timezone(timedelta(hours=-8))
 
 
 class UnitTests(unittest.TestCase):
@@ -55,6 +61,51 @@ class UnitTests(unittest.TestCase):
         self.unit.advance(1.0)
         self.assertEqual(self.unit.frame(0.5, 0x7E0, bytes.fromhex("023E00"))[0].time, 1.0)
         self.assertEqual(self.unit.advance(-1.0), [])
+
+    def test_a_step_of_more_than_100_years(self) -> None:
+        century = 100 * 365.25 * 86_400
+        # the first moment may be any: nothing passes before it
+        self.unit.advance(2 * century)
+        for late in (3 * century + 1, 1e18):
+            with self.assertRaisesRegex(ValueError, "more than 100 years at once"):
+                self.unit.advance(late)
+            with self.assertRaisesRegex(ValueError, "more than 100 years at once"):
+                self.unit.frame(late, 0x7E0, EXTENDED)
+        self.assertEqual(self.unit.frame(0.0, 0x7E0, EXTENDED)[0].time, 2 * century)
+        with Unit(SETUP) as unit:
+            unit.frame(0.0, 0x7E0, EXTENDED)
+            unit.advance(century)
+            self.assertEqual(unit.session, "default")
+
+    def test_items_of_other_widths(self) -> None:
+        wide = array("q", list(EXTENDED))
+        with self.assertRaisesRegex(TypeError, "bytes wanted, one item each"):
+            self.unit.frame(0.0, 0x7E0, wide)
+        with self.assertRaisesRegex(TypeError, "bytes wanted, one item each"):
+            self.unit.values[0xF195] = array("H", [4, 5])
+        self.unit.values[0xF195] = [4, 5]
+        self.assertEqual(self.unit.values[0xF195], b"\x04\x05")
+        for same in (list(EXTENDED), array("B", EXTENDED), memoryview(EXTENDED)):
+            self.assertEqual(self.unit.frame(0.0, 0x7E0, same)[0].data.hex(), "065003003201f4cc")
+
+    def test_threads_share_a_unit(self) -> None:
+        faults: list[BaseException] = []
+
+        def ask(id: int) -> None:
+            try:
+                for _ in range(500):
+                    frames = self.unit.frame(0.0, id, bytes.fromhex("0322F195"))
+                    self.assertEqual([it.id for it in frames], [id + 8])
+                    self.assertEqual(self.unit.values[0xF195], b"\x02\x03")
+            except BaseException as fault:
+                faults.append(fault)
+
+        threads = [threading.Thread(target=ask, args=(id,)) for id in (0x7E0, 0x7A0, 0x7E0, 0x7A0)]
+        for it in threads:
+            it.start()
+        for it in threads:
+            it.join()
+        self.assertEqual(faults, [])
 
     def test_values(self) -> None:
         values = self.unit.values
@@ -98,9 +149,19 @@ class UnitTests(unittest.TestCase):
             self.assertEqual(other.journal(), "")
 
     def test_no_frame(self) -> None:
-        wrong = [(0x7E0, bytes(9), False), (0x800, b"", False), (0x20000000, b"", True), (-1, b"", False), (1 << 40, b"", False)]
-        for id, data, extended in wrong:
-            with self.assertRaisesRegex(FrameFault, "no frame of CAN"):
+        length = "^a frame has 0 to 8, 12, 16, 20, 24, 32, 48 or 64 bytes, and not "
+        number = "^an identifier has up to 29 bits, and is not negative: "
+        wrong = [
+            (0x7E0, bytes(9), False, f"{length}9$"),
+            (0x18DA10F1, bytes(65), True, f"{length}65$"),
+            (0x800, b"", False, "^an identifier of more than 11 bits wants extended=True: 0x800$"),
+            (0x18DA10F1, EXTENDED, False, "^an identifier of more than 11 bits wants extended=True: 0x18da10f1$"),
+            (0x20000000, b"", True, f"{number}0x20000000$"),
+            (-1, b"", False, f"{number}-0x1$"),
+            (1 << 40, b"", False, f"{number}0x10000000000$"),
+        ]
+        for id, data, extended, text in wrong:
+            with self.assertRaisesRegex(FrameFault, text):
                 self.unit.frame(9.0, id, data, extended=extended)
         self.assertEqual(self.unit.frame(0.0, 0x18DB33F1, EXTENDED, extended=True), [])
         self.assertEqual(self.unit.frame(0.0, 0x7E0, bytearray(EXTENDED))[0].time, 0.0)
@@ -164,6 +225,18 @@ class SetupTests(unittest.TestCase):
         with self.assertRaises(OSError):
             Unit("no_such_file.toml")
 
+    def test_too_long(self) -> None:
+        most = SETUP.read_bytes().ljust(1_048_576)
+        with tempfile.NamedTemporaryFile(suffix=".toml") as file:
+            file.write(most + b"\n")
+            file.flush()
+            for setup in (most + b"\n", file.name):
+                with self.assertRaisesRegex(SetupFault, "^config: too long$"):
+                    Unit(setup)
+            file.truncate(len(most))
+            for setup in (most, file.name):
+                Unit(setup).close()
+
     def test_kinds_of_setup(self) -> None:
         for setup in (str(SETUP), SETUP, os.fspath(SETUP), SETUP.read_bytes()):
             with Unit(setup) as unit:
@@ -171,6 +244,13 @@ class SetupTests(unittest.TestCase):
 
 
 class TomlTests(unittest.TestCase):
+    def test_what_python_does_not_read(self) -> None:
+        with Unit(b"x = 07:32\n" + WIDE) as unit:
+            self.assertEqual(unit.testers, ("A", "B"))
+        # (the library takes a leap second, and Python none)
+        with self.assertRaisesRegex(SetupFault, "^config: Python doesn't read this TOML: .*line 1, column 7"):
+            Unit(b"x = 23:59:60\n" + WIDE)
+
     def test_a_setup_of_toml_1_1(self) -> None:
         text = b"""tester = [
           {   # an inline table of several lines, with a comma at its end
@@ -190,6 +270,9 @@ class TomlTests(unittest.TestCase):
             ('s = "a\\x41\\e\\\\x41"\nt = \'\\x41\'\n', {"s": "aA\x1b\\x41", "t": "\\x41"}),
             ('s = """a\n\\x41 "" "\n\\""""\n[[x]]\ny = { }\n', {"s": 'a\nA "" "\n"', "x": [{"y": {}}]}),
             ("y = {\n b = \"}\\\"\",\n c = \'\'\'q\n,}\'\'\',\n}\n", {"y": {"b": '}"', "c": "q\n,}"}}),
+            ("a = 07:32\nb = '07:32' # 07:32\nc = [07:32,08:40:01]\n", {"a": SEVEN, "b": "07:32", "c": [SEVEN, time(8, 40, 1)]}),
+            ("a = 1979-05-27T07:32-08:00\n", {"a": datetime(1979, 5, 27, 7, 32, tzinfo=WEST)}),
+            ("a = [1979-05-27 07:32]\n", {"a": [datetime(1979, 5, 27, 7, 32)]}),
         ):
             self.assertEqual(toml.loads(text), wanted)
         for text in ("a = { b = 1,, }", "a = 1,\nb", "a = {\nb = 1", "[a\n]"):

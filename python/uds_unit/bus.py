@@ -11,13 +11,19 @@ from .unit import Frame, Unit
 
 # the most seconds without a look whether to stop
 PATIENCE = 0.05
+# the most seconds that a frame may take to go out (N_As of ISO 15765-2), and between two tries where the adapter takes none
+N_AS = 1.0
+BREATH = 0.0005
 
 
 class UnitBus:
     """A unit of a setup on a bus, in a thread of its own from `start` (or `with`) to `stop`. The bus stays the caller's.
 
     The unit's time is the machine's monotonic clock. Where a frame goes late, all that is due behind it goes as much later,
-    until nothing is waited for: so two frames are never nearer to each other than their separation time.
+    until nothing is waited for: so two frames are never nearer to each other than their separation time. A frame that the bus
+    doesn't take, as where the adapter's queue is full, is given to it again for a second; then the bus is at fault.
+
+    A fault of the bus ends the thread. From then on what asks or sets something of the unit raises it; `journal` doesn't.
 
     `setup` is the path of a setup in TOML, or the bytes of one; SetupFault and OSError as `Unit` raises them.
     """
@@ -69,40 +75,40 @@ class UnitBus:
     def session(self) -> str:
         """The session, as `Unit.session`."""
         with self._lock:
-            self._catch_up()
+            self._look()
             return self._unit.session
 
     @property
     def holder(self) -> str | None:
         """The tester in a session other than the default one, as `Unit.holder`."""
         with self._lock:
-            self._catch_up()
+            self._look()
             return self._unit.holder
 
     @property
     def codes(self) -> Mapping[int, int]:
         """The DTCs with their status, as they are now."""
         with self._lock:
-            self._catch_up()
+            self._look()
             return dict(self._unit.codes)
 
     @property
     def values(self) -> Mapping[int, bytes]:
         """The values of the data identifiers, as they are now."""
         with self._lock:
-            self._catch_up()
+            self._look()
             return dict(self._unit.values)
 
     def set_value(self, id: int, value: bytes) -> None:
         """Sets the value of a data identifier, as the ECU's own software does."""
         with self._lock:
-            self._catch_up()
+            self._look()
             self._unit.values[id] = value
 
     def set_code(self, code: int, status: int) -> None:
         """Sets the status of a DTC, as the ECU's own software does."""
         with self._lock:
-            self._catch_up()
+            self._look()
             self._unit.codes[code] = status
 
     def journal(self) -> str:
@@ -112,6 +118,12 @@ class UnitBus:
                 self._catch_up()
                 self._told += self._unit.journal()
             return self._told
+
+    def _look(self) -> None:
+        """Before the unit is asked or set something: raises what ended the thread, and lets the unit's time pass."""
+        if self.fault is not None:
+            raise self.fault
+        self._catch_up()
 
     def _catch_up(self) -> None:
         """Lets the unit's time pass up to now, where it was started and no frame is due before: those are the thread's. While
@@ -147,8 +159,20 @@ class UnitBus:
 
     def _send(self, frames: list[Frame]) -> None:
         for frame in frames:
-            self.bus.send(self._message(frame))
+            self._put(self._message(frame))
             self._late += max(self._now() - frame.time, 0.0)
+
+    def _put(self, message: can.Message) -> None:
+        """Gives a message to the bus, again and again where it doesn't take it."""
+        end = time.monotonic() + N_AS
+        while True:
+            try:
+                self.bus.send(message)
+                return
+            except can.CanOperationError:
+                if self._stopped.is_set() or time.monotonic() >= end:
+                    raise
+            time.sleep(BREATH)
 
     def _message(self, frame: Frame) -> can.Message:
         flags = self._unit.fd_flags if frame.fd else 0

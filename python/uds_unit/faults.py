@@ -6,7 +6,8 @@ class UnitFault(Exception):
 
 
 class SetupFault(UnitFault, ValueError):
-    """The setup is at fault: the line that the program tells, as `config: empty`."""
+    """The setup is at fault: the line that the program tells, as `config: empty`; or the library takes it, and Python's reader
+    of TOML doesn't."""
 
 
 class ClosedFault(UnitFault):

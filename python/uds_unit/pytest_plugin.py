@@ -41,7 +41,8 @@ def uds_setup(pytestconfig: pytest.Config) -> Any:
     name = pytestconfig.getini("uds_setup")
     if not name:
         pytest.fail("the fixture uds_unit wants the ini key uds_setup, or a fixture uds_setup", pytrace=False)
-    return pytestconfig.rootpath / name
+    ini = pytestconfig.inipath
+    return (pytestconfig.rootpath if ini is None else ini.parent) / name
 
 
 @pytest.fixture

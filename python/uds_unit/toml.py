@@ -10,6 +10,8 @@ _PARTS = re.compile(
 )
 # \e, and \x with two digits; any other escape stands for itself
 _ESCAPES = re.compile(r"\\(?:x([0-9A-Fa-f]{2})|(e)|.)", re.DOTALL)
+# a time of day without seconds; behind a sign the same is an offset from UTC
+_MINUTES = re.compile(r"(?<![-+:\d])\d\d:\d\d(?!:)")
 
 
 def loads(text: str) -> dict[str, Any]:
@@ -25,7 +27,8 @@ def loads(text: str) -> dict[str, Any]:
 
 
 def _as_1_0(text: str) -> str:
-    """A text in which an inline table has one line and no comma at its end, and strings have the escapes of TOML 1.0."""
+    """A text in which an inline table has one line and no comma at its end, strings have the escapes of TOML 1.0, and times
+    have seconds."""
     found: list[str] = []
     within: list[str] = []
     for part in _PARTS.findall(text.replace("\r\n", "\n")):
@@ -40,6 +43,8 @@ def _as_1_0(text: str) -> str:
                 within.pop()
         elif "{" in within and (part == "\n" or part[0] == "#"):
             part = " "
+        elif part[0] not in "'#":
+            part = _MINUTES.sub(r"\g<0>:00", part)
         found.append(part)
     return "".join(found)
 

@@ -1,8 +1,9 @@
 """The unit: frames and moments go in, frames come out."""
 import os
+import threading
 from collections.abc import Iterator, MutableMapping
 from ctypes import byref, c_size_t, c_uint16, c_uint64, create_string_buffer
-from typing import Any, NamedTuple, Self
+from typing import Any, NamedTuple, NoReturn, Self
 
 from . import library, toml
 from .faults import ClosedFault, FrameFault, MemoryFault, SetupFault
@@ -12,11 +13,15 @@ from .library import CLOSED, DONE, LENGTH, MEMORY, NO_FRAME, NONE, ROOM, UNKNOWN
 SESSIONS = {1: "default", 2: "programming", 3: "extended", 4: "safety"}
 # bit 31 of an identifier says that it has 29 bits
 EXTENDED = 1 << 31
-LOW_29 = (1 << 29) - 1
+LOW_11, LOW_29 = (1 << 11) - 1, (1 << 29) - 1
 # the functional identifiers that a setup needn't tell (ISO 15765-4)
 FUNCTIONAL, FUNCTIONAL_29 = 0x7DF, 0x18DB33F1
 MICRO = 1_000_000
 NEVER = 2**64 - 1
+# the longest step at once, in microseconds: what it takes, time and with a journal memory, is in proportion to it
+CENTURY = 36_525 * 86_400 * MICRO
+# the most bytes of a setup, as the program has it
+MOST_SETUP = 1_048_576
 
 
 class Frame(NamedTuple):
@@ -36,8 +41,41 @@ class Frame(NamedTuple):
     """Whether it is a frame of CAN FD, as all are to a tester with `fd = true`."""
 
 
-def _microseconds(time: float) -> int:
-    return min(max(round(time * MICRO), 0), NEVER)
+def read_setup(setup: str | os.PathLike[str] | bytes) -> bytes:
+    """The bytes of a setup: of a path, or these. SetupFault where they are more than the program takes."""
+    if isinstance(setup, bytes):
+        config = setup
+    else:
+        with open(setup, "rb") as file:
+            config = file.read(MOST_SETUP + 1)
+    if len(config) > MOST_SETUP:
+        raise SetupFault("config: too long")
+    return config
+
+
+def _tables(config: bytes) -> dict[str, Any]:
+    """The tables of a setup that the library took. SetupFault where Python doesn't."""
+    try:
+        return toml.loads(config.decode().removeprefix("\ufeff"))
+    except (ValueError, RecursionError) as fault:
+        raise SetupFault(f"config: Python doesn't read this TOML: {fault}") from fault
+
+
+def _raw(data: bytes) -> bytes:
+    """These bytes. TypeError where an item has more than one, as those of an array may."""
+    raw = bytes(data)
+    if len(raw) != len(data):
+        raise TypeError("bytes wanted, one item each")
+    return raw
+
+
+def _no_frame(id: int, extended: bool, length: int) -> str:
+    """Why there is no such frame."""
+    if not 0 <= id <= LOW_29:
+        return f"an identifier has up to 29 bits, and is not negative: {id:#x}"
+    if id > LOW_11 and not extended:
+        return f"an identifier of more than 11 bits wants extended=True: {id:#x}"
+    return f"a frame has 0 to 8, 12, 16, 20, 24, 32, 48 or 64 bytes, and not {length}"
 
 
 def _fd_requests(setup: dict[str, Any]) -> Iterator[tuple[int, bool]]:
@@ -51,16 +89,21 @@ def _fd_requests(setup: dict[str, Any]) -> Iterator[tuple[int, bool]]:
 
 class Unit:
     """A unit of a setup, to which nothing has happened yet. It reads no clock: time is what the caller says, in seconds from
-    any zero. The first moment that it is given is where its time begins. One thread at a time may call a unit.
+    any zero. The first moment that it is given is where its time begins. Threads may share a unit: it takes one call at a time.
 
     `setup` is the path of a setup in TOML, or the bytes of one. With `journal` the unit keeps the lines of its journal
     until `journal()` hands them out.
 
-    Raises SetupFault where the setup is at fault, OSError where it or the library can't be read, MemoryFault.
+    Raises SetupFault where the setup is at fault, OSError where it or the library can't be read, MemoryFault. A step of
+    time of more than 100 years is a ValueError.
     """
 
     def __init__(self, setup: str | os.PathLike[str] | bytes, *, journal: bool = False) -> None:
         self._library = library.load()
+        # (a signal's handler may call the unit, too, in the middle of a call)
+        self._lock = threading.RLock()
+        # the latest moment, in microseconds; negative before the first
+        self._latest = -1
         self._handle = Handle()
         self._at = byref(self._handle)
         self._reply = Reply()
@@ -68,11 +111,7 @@ class Unit:
         # (looked up once, for they are wanted for each frame)
         self._frame, self._next = self._library.uds_unit_frame, self._library.uds_unit_next
         self._bytes = self._reply.bytes
-        if isinstance(setup, bytes):
-            config = setup
-        else:
-            with open(setup, "rb") as file:
-                config = file.read()
+        config = read_setup(setup)
         text = create_string_buffer(1024)
         call = self._library.uds_unit_open_with_journal if journal else self._library.uds_unit_open
         status = call(self._at, config, len(config), text, len(text))
@@ -80,7 +119,7 @@ class Unit:
             raise MemoryFault("memory")
         if status != DONE:
             raise SetupFault(text.value.decode().strip().removeprefix("uds_play: "))
-        tree = toml.loads(config.decode().removeprefix("\ufeff"))
+        tree = _tables(config)
         self.testers: tuple[str, ...] = tuple(tester["name"] for tester in tree["tester"])
         """The testers' names, in the order of the setup."""
         self.fd_requests: frozenset[tuple[int, bool]] = frozenset(_fd_requests(tree))
@@ -94,7 +133,7 @@ class Unit:
 
     def close(self) -> None:
         """Frees the unit. Every other call of a closed unit raises ClosedFault; this one does nothing again."""
-        self._library.uds_unit_close(self._at)
+        self._call("close")
 
     def __enter__(self) -> Self:
         return self
@@ -114,28 +153,32 @@ class Unit:
 
         Raises FrameFault where no frame has this identifier, or so many bytes; then nothing was taken.
         """
-        if extended:
-            id |= EXTENDED
-        if not 0 <= id <= 0xFFFFFFFF:
-            raise FrameFault("no frame of CAN")
-        status = self._frame(self._at, _microseconds(time), id, bytes(data), len(data))
-        if status != DONE:
-            self._raise(status)
-        return self._due()
+        raw = _raw(data)
+        number = id | EXTENDED if extended else id
+        if not 0 <= number <= 0xFFFFFFFF:
+            raise FrameFault(_no_frame(id, extended, len(raw)))
+        with self._lock:
+            at = self._moment(time)
+            status = self._frame(self._at, at, number, raw, len(raw))
+            if status == DONE:
+                return self._due(at)
+        if status == NO_FRAME:
+            raise FrameFault(_no_frame(id, extended, len(raw)))
+        self._raise(status)
 
     def advance(self, time: float) -> list[Frame]:
         """Lets time pass to a moment in seconds, and returns the frames that are due up to then."""
-        status = self._library.uds_unit_pass(self._at, _microseconds(time))
-        if status != DONE:
-            self._raise(status)
-        return self._due()
+        with self._lock:
+            at = self._moment(time)
+            self._check(self._library.uds_unit_pass(self._at, at))
+            return self._due(at)
 
     @property
     def due(self) -> float | None:
         """The next moment, in seconds, at which a frame may fall due where nothing comes in before; None where nothing is
         waited for."""
         at = c_uint64()
-        self._check(self._library.uds_unit_due(self._at, byref(at)))
+        self._check(self._call("due", byref(at)))
         return None if at.value == NEVER else at.value / MICRO
 
     @property
@@ -154,19 +197,34 @@ class Unit:
         """The journal's lines since the last such call, and first its header; empty where the unit keeps no journal."""
         length = c_size_t()
         text = create_string_buffer(1)
-        status = self._library.uds_unit_journal(self._at, text, 0, byref(length))
+        status = self._call("journal", text, 0, byref(length))
         while status == ROOM:
             text = create_string_buffer(length.value)
-            status = self._library.uds_unit_journal(self._at, text, length.value, byref(length))
+            status = self._call("journal", text, length.value, byref(length))
         self._check(status)
         return text.raw[: length.value].decode()
 
     def _state(self) -> State:
         state = State()
-        self._check(self._library.uds_unit_state(self._at, byref(state)))
+        self._check(self._call("state", byref(state)))
         return state
 
-    def _due(self) -> list[Frame]:
+    def _call(self, name: str, *arguments: Any) -> int:
+        """The status of a call of the library's."""
+        with self._lock:
+            return getattr(self._library, f"uds_unit_{name}")(self._at, *arguments)
+
+    def _moment(self, time: float) -> int:
+        """A moment in microseconds."""
+        at = min(max(round(time * MICRO), 0), NEVER)
+        if at - self._latest > CENTURY and self._latest >= 0:
+            raise ValueError("more than 100 years at once")
+        return at
+
+    def _due(self, at: int) -> list[Frame]:
+        """The frames that are due, time having passed to this moment."""
+        if at > self._latest:
+            self._latest = at
         frames = []
         reply, held, take = self._reply, self._bytes, self._next
         while take(self._at, self._reply_at) == DONE:
@@ -180,11 +238,9 @@ class Unit:
             self._raise(status)
 
     @staticmethod
-    def _raise(status: int) -> None:
+    def _raise(status: int) -> NoReturn:
         if status == CLOSED:
             raise ClosedFault("the unit is closed")
-        if status == NO_FRAME:
-            raise FrameFault("no frame of CAN")
         raise MemoryFault("memory")
 
 
@@ -198,7 +254,7 @@ class Values(MutableMapping[int, bytes]):
     def __getitem__(self, id: int) -> bytes:
         unit, length, value = self._unit, c_size_t(), create_string_buffer(255)
         _in_range(id, 0xFFFF)
-        status = unit._library.uds_unit_value(unit._at, id, value, 255, byref(length))
+        status = unit._call("value", id, value, 255, byref(length))
         if status == UNKNOWN:
             raise KeyError(id)
         unit._check(status)
@@ -207,7 +263,8 @@ class Values(MutableMapping[int, bytes]):
     def __setitem__(self, id: int, value: bytes) -> None:
         unit = self._unit
         _in_range(id, 0xFFFF)
-        status = unit._library.uds_unit_set_value(unit._at, id, bytes(value), len(value))
+        raw = _raw(value)
+        status = unit._call("set_value", id, raw, len(raw))
         if status == UNKNOWN:
             raise KeyError(id)
         if status == LENGTH:
@@ -219,7 +276,7 @@ class Values(MutableMapping[int, bytes]):
 
     def __iter__(self) -> Iterator[int]:
         unit, id, place = self._unit, c_uint16(), 0
-        while (status := unit._library.uds_unit_identifier(unit._at, place, byref(id))) == DONE:
+        while (status := unit._call("identifier", place, byref(id))) == DONE:
             yield id.value
             place += 1
         if status != NONE:
@@ -247,7 +304,7 @@ class Codes(MutableMapping[int, int]):
         _in_range(code, 0xFFFFFF)
         if not 0 <= status <= 0xFF:
             raise ValueError("no status byte")
-        answer = unit._library.uds_unit_set_code(unit._at, code, status)
+        answer = unit._call("set_code", code, status)
         if answer == UNKNOWN:
             raise KeyError(code)
         unit._check(answer)
@@ -263,7 +320,7 @@ class Codes(MutableMapping[int, int]):
 
     def _rows(self) -> Iterator[tuple[int, int]]:
         unit, row, place = self._unit, Code(), 0
-        while (status := unit._library.uds_unit_code(unit._at, place, byref(row))) == DONE:
+        while (status := unit._call("code", place, byref(row))) == DONE:
             yield row.code, row.status
             place += 1
         if status != NONE:
