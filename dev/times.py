@@ -2,7 +2,7 @@
 """Where the time of the gate goes, crate by crate and edit by edit, in processor seconds.
 
 Usage: dev/times.py [--to FILE] COMMAND WORD..    as in dev/times.py rt ci
-                                                    or    dev/times.py rt must-fail --anew diag_can
+                                                    or    dev/times.py rt must-fail diag_can
 
 It runs the command in this folder and, twice a second, looks at the processes below it: each run of the prover names its
 crate, and works in a folder that tells what it is for. `rt` itself prints no times. Processor seconds are those of a run
