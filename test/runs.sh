@@ -128,6 +128,10 @@ for command in serial play; do
   : > "$room/out"
   ends "a text that can't be written: $command" 7 'cannot write'
 done
+status=0
+"$program" --help > /dev/full 2> "$room/err" || status=$?
+: > "$room/out"
+ends "a text that can't be written: --help" 7 'cannot write'
 
 # The launcher with a closed standard stream, by a link to it, over a copy of the built program, which is never stale.
 mkdir -p "$room/top/crates/uds_play/out"

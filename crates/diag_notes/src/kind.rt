@@ -1,5 +1,7 @@
 //! What a line looks like that isn't one of `candump -L`.
 
+use crate::line::FoundLine;
+
 /// What a file is by its first bytes, where it is none of lines of ASCII, and what helps.
 pub fn file_kind(first: &[u8]) -> Option<&'static str> {
     match first {
@@ -25,12 +27,15 @@ pub fn file_kind(first: &[u8]) -> Option<&'static str> {
 }
 
 /// What a line of a log or of a capture looks like, and what helps.
-pub fn looks(line: &[u8]) -> &'static str {
-    match line {
+pub fn looks(line: &FoundLine) -> &'static str {
+    match line.bytes.as_slice() {
         [0xEF, 0xBB, 0xBF, ..] => {
             "it begins with a byte order mark: save the recording without one"
         }
-        _ => by_text(std::str::from_utf8(line).unwrap_or("")),
+        [b'(', ..] if !line.is_ended => {
+            "it is the last line and has no end: was the recording cut off?"
+        }
+        bytes => by_text(std::str::from_utf8(bytes).unwrap_or("")),
     }
 }
 

@@ -10,6 +10,6 @@ mod seen;
 
 pub use journal::expected;
 pub use kind::{file_kind, is_recording, looks};
-pub use line::{ShownLine, line_at};
+pub use line::{FoundLine, ShownLine, line_at};
 pub use place::Place;
 pub use seen::{Recording, Side};

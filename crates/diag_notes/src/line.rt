@@ -16,6 +16,15 @@ const MOST_SHOWN_RAW: usize = 8;
 /// How many bytes are read at once.
 const PIECE: usize = 65_536;
 
+/// The start of a line of a file.
+#[derive(Drop)]
+pub struct FoundLine {
+    /// Its first bytes.
+    pub bytes: Vec<u8>,
+    /// Whether it ends by LF, or goes on behind them.
+    pub is_ended: bool,
+}
+
 /// A line that is looked for as pieces of its file come.
 #[derive(Drop)]
 struct Search {
@@ -45,12 +54,12 @@ impl Search {
     }
 }
 
-/// The first bytes of the line of this number, from 1; none where a file can't be read as far, or has no such line.
+/// The line of this number, from 1; none where a file can't be read as far, or has no such line.
 pub fn line_at<R: Read>(
     alloc: Global,
     file: &mut R,
     number: u64,
-) -> Result<Option<Vec<u8>>, AllocError> {
+) -> Result<Option<FoundLine>, AllocError> {
     let mut search = Search {
         before: number.saturating_sub(1),
         line: Vec::new(alloc),
@@ -67,7 +76,10 @@ pub fn line_at<R: Read>(
         search.take(&piece.as_slice()[..count])?;
     }
     let is_there = search.before == 0 && !search.line.is_empty();
-    Ok(is_there.then_some(search.line))
+    Ok(is_there.then_some(FoundLine {
+        bytes: search.line,
+        is_ended: search.is_over,
+    }))
 }
 
 /// The start of a line as it is told: printable characters of ASCII, and other bytes in hex.

@@ -97,10 +97,10 @@ fn is_quiet(words: &[String]) -> bool {
 /// Prints why the words were refused, and says the status.
 fn refuse(rt: &(impl Print + Eprint), refusal: &Refusal) -> ExitCode {
     match refusal {
-        Refusal::Told(text) => {
-            let _ = rt.print(text);
-            ExitCode::SUCCESS
-        }
+        Refusal::Told(text) => match rt.print(text) {
+            Ok(()) => ExitCode::SUCCESS,
+            Err(_) => refuse_write(rt),
+        },
         Refusal::Usage(_) => {
             let _ = eprintln!(rt; "{USAGE}");
             ExitCode::from(1)
@@ -518,6 +518,12 @@ fn serve<B: Bench, W: Write, F: Write>(
     }
 }
 
+/// Prints that something can't be written, and says the status.
+fn refuse_write(rt: &impl Eprint) -> ExitCode {
+    let _ = eprintln!(rt; "uds_play: cannot write");
+    ExitCode::from(7)
+}
+
 /// Prints why there is no record, and says the status.
 fn refuse_record(rt: &(impl Print + Eprint), why: ErrorKind) -> ExitCode {
     match why {
@@ -526,10 +532,7 @@ fn refuse_record(rt: &(impl Print + Eprint), why: ErrorKind) -> ExitCode {
             let _ = eprintln!(rt; "uds_play: record exists");
             ExitCode::from(7)
         }
-        _ => {
-            let _ = eprintln!(rt; "uds_play: cannot write");
-            ExitCode::from(7)
-        }
+        _ => refuse_write(rt),
     }
 }
 

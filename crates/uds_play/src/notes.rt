@@ -6,7 +6,7 @@ use crate::source::MOST_KEPT;
 use diag_check::{Remark, check, look_at};
 use diag_config::read_setup;
 use diag_notes::{
-    Place, Recording, ShownLine, Side, expected, file_kind, is_recording, line_at, looks,
+    FoundLine, Place, Recording, ShownLine, Side, expected, file_kind, is_recording, line_at, looks,
 };
 use diag_run::Outcome;
 use diag_setup::{RawSetup, RawTester};
@@ -93,9 +93,12 @@ impl Notes<'_> {
         if self.quiet {
             return;
         }
-        let Some(text) = read_regular(rt, self.config, MOST_SETUP) else {
+        let Some(text) = self.setup_text(rt) else {
             return;
         };
+        if text.len() > MOST_SETUP {
+            return;
+        }
         if let Ok(report) = look_at(rt.alloc(), text.as_slice()) {
             // Where there is no memory, no note tells of it.
             let _ = self.remarks(rt, report.passed.as_slice());
@@ -151,7 +154,7 @@ impl Notes<'_> {
             Place::Line(file, number) => self.bad_line(rt, file, number, first),
             Place::JournalLine(number) => self.bad_journal_line(rt, number, first),
             Place::Entry(number) => match self.line(rt, 1, number.saturating_add(1), first)? {
-                Some(line) => self.other_entry(rt, number, line.as_slice()),
+                Some(line) => self.other_entry(rt, number, line.bytes.as_slice()),
                 None => Ok(()),
             },
             Place::Files => {
@@ -173,22 +176,31 @@ impl Notes<'_> {
         }
     }
 
+    /// The text of the setup; of one that is too long one byte more than the most.
+    fn setup_text<R: Files + AllocGlobal>(&self, rt: &R) -> Option<Vec<u8>> {
+        read_regular(rt, self.config, MOST_SETUP + 1)
+    }
+
     /// All faults of the setup, or the first of many.
     fn faults<R: Eprint + Files + AllocGlobal>(&self, rt: &R) -> Result<(), AllocError> {
-        let Some(text) = read_regular(rt, self.config, MOST_SETUP) else {
+        let config = self.config;
+        let Some(text) = self.setup_text(rt) else {
             return Ok(());
         };
         if is_recording(text.as_slice()) {
-            let config = self.config;
             let line = format!(in rt.alloc();
                 "{config} is a recording: the setup comes first, then the recording"
             )?;
             note(rt, line.as_str());
             return Ok(());
         }
+        if text.len() > MOST_SETUP {
+            let line = format!(in rt.alloc(); "{config}: a setup has at most {MOST_SETUP} bytes")?;
+            note(rt, line.as_str());
+            return Ok(());
+        }
         let report = check(rt.alloc(), text.as_slice())?;
         for finding in report.faults.iter().take(MOST_FAULTS) {
-            let config = self.config;
             let line = format!(in rt.alloc(); "{config}: {finding}")?;
             note(rt, line.as_str());
         }
@@ -237,10 +249,9 @@ impl Notes<'_> {
         file: usize,
         number: u64,
         first: &[u8],
-    ) -> Result<Option<Vec<u8>>, AllocError> {
+    ) -> Result<Option<FoundLine>, AllocError> {
         if self.is_standard() {
-            let mut first = first;
-            return line_at(rt.alloc(), &mut first, number);
+            return kept_line(rt.alloc(), first, number);
         }
         let path = self.path(file);
         if !is_regular(rt, path) {
@@ -264,8 +275,8 @@ impl Notes<'_> {
             return Ok(());
         }
         if let Some(line) = self.line(rt, file, number, first)? {
-            self.shown(rt, file, number, line.as_slice())?;
-            note(rt, looks(line.as_slice()));
+            self.shown(rt, file, number, line.bytes.as_slice())?;
+            note(rt, looks(&line));
         }
         Ok(())
     }
@@ -281,8 +292,8 @@ impl Notes<'_> {
             return Ok(());
         }
         if let Some(line) = self.line(rt, 1, number, first)? {
-            self.shown(rt, 1, number, line.as_slice())?;
-            note(rt, expected(number, line.as_slice()));
+            self.shown(rt, 1, number, line.bytes.as_slice())?;
+            note(rt, expected(number, &line));
         }
         Ok(())
     }
@@ -417,6 +428,17 @@ impl Notes<'_> {
             is_timed: self.kind == FileKind::Capture,
         }
     }
+}
+
+/// The line of this number among the first bytes of standard input; where no more were kept it may go on behind them.
+fn kept_line(alloc: Global, first: &[u8], number: u64) -> Result<Option<FoundLine>, AllocError> {
+    let is_cut = first.len() >= MOST_KEPT;
+    let mut first = first;
+    let found = line_at(alloc, &mut first, number)?;
+    Ok(found.map(|line| FoundLine {
+        is_ended: line.is_ended || is_cut,
+        ..line
+    }))
 }
 
 /// What is looked for in a recording.
