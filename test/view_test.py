@@ -369,6 +369,12 @@ BESIDE = """\
 """
 
 
+def behind_cut(sent="FF"):
+    """What `compare` writes of two long answers that differ at the last byte alone."""
+    value = f"620100{bytes(range(56)).hex().upper()}"
+    return f"1 0000000100.000000 A P 220100 {value}{sent} {value}38 5 0\nA 1 exchanges, 1 differ\n"
+
+
 def beside(room):
     """The text of a comparison, and what isn't one of this setup."""
     found, setup = comparison(room, spoilt()), whole(f"{TOP}/demo/setup.toml")
@@ -565,6 +571,19 @@ def long_frames(room, page):
     told(found == want and len(want) == 4 and is_quiet(page), "a frame of more than 32 bytes opens to two lines", found)
 
 
+def wide(room, page):
+    """A chart is as wide as what it says, and scrolls; two long answers stand beside each other."""
+    page.open(page_of(room, whole(f"{TOP}/runs/fd.toml"), whole(f"{TOP}/runs/bus/fd_long/bus.stdout")), 900, 700)
+    page.ask("opened.add(0); show(); 0")
+    ends = "[...document.querySelectorAll('#chart text')].map((it) => it.getBoundingClientRect().right)"
+    found = page.ask(AFTER_DRAWING % f"[Math.max(...{ends}), chart.scroller.scrollWidth, chart.scroller.clientWidth]")
+    told(found[2] < found[0] <= found[1] and is_quiet(page), "a long frame can be scrolled to", found)
+    page.open(page_of(room, bus.SETUP, behind_cut()), 900, 700)
+    sides = "['sent', 'expected'].map((it) => document.querySelector(`text.differs.${it}`).getBoundingClientRect())"
+    found = page.ask(f"(([one, two]) => [one.right, two.left, two.right, chart.scroller.scrollWidth])({sides})")
+    told(found == sorted(found) and is_quiet(page), "two long answers beside each other", found)
+
+
 def later(room, page):
     """A reply that goes later is an arrow at its time, and is marked with its request's line."""
     slow = f"{TOP}/runs/bus/rule_slow_twice"
@@ -700,7 +719,7 @@ def pages(room):
         print(f"view: Chromium can't be used here ({it}): the pages aren't opened", flush=True)
         return
     try:
-        for group in (whole_pages, frames_page, by_mouse, long_frames, later, beside_page, not_sent, by_filter, hostile, long_page, pictures):
+        for group in (whole_pages, frames_page, by_mouse, long_frames, wide, later, beside_page, not_sent, by_filter, hostile, long_page, pictures):
             group(room, page)
     finally:
         page.close()
