@@ -348,6 +348,17 @@ def late(_):
 # ---- the recorded unit beside the server
 
 
+def first_bytes(_):
+    """Where two answers that differ read alike, the text tells the first byte that does."""
+    for sent, want in [("FF", "byte 59: FF, server 38"), ("38FF", "")]:
+        found = text_of(bus.SETUP, behind_cut(sent))
+        told(f"({want})\n" in found if want else "(byte" not in found, f"the first byte that differs: {want or 'in sight'}", found)
+    dtcs = "".join(f"{it:06X}2F" for it in range(20))
+    cut = f"1 0000000100.000000 A P 1902FF 5902FF{dtcs}0000 5902FF{dtcs}00 5 0\nA 1 exchanges, 1 differ\n"
+    found = text_of(bus.SETUP, cut)
+    told("(byte 84: 00, server none)\n" in found, "the first byte that the server doesn't have", found)
+
+
 def spoilt():
     """The demo's other unit, with a byte of a value and P2* changed, and a message that nobody asked."""
     text = whole(f"{TOP}/demo/other_unit.log")
@@ -739,7 +750,7 @@ def main():
     if sys.argv[1:] == ["--pictures"]:
         return make_pictures()
     told.needs_program()
-    told.in_rooms(names, texts, lines_a_step, sessions, silence, late, beside, parted, line_ends, faults, pages)
+    told.in_rooms(names, texts, lines_a_step, sessions, silence, late, beside, first_bytes, parted, line_ends, faults, pages)
     return told.ended()
 
 
