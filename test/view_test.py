@@ -56,6 +56,14 @@ def whole(path):
 
 def names(_):
     told(uds_names.table() in whole(f"{TOP}/docs/VIEW.md"), "the names in docs/VIEW.md are those of the tool")
+    for sid, sub, want in [
+        (0x27, 0x42, "sendKey"), (0x27, 0x43, "requestSeed"), (0x27, 0xFE, "sendKey"), (0x27, 0x7F, ""),
+        (0x19, 0x05, "reportDTCStoredDataByRecordNumber"), (0x19, 0x0A, "reportSupportedDTC"), (0x11, 0x06, ""),
+    ]:
+        told(uds_names.sub_name(sid, sub) == want, f"the name of {sid:02X} {sub:02X}: {want}", uds_names.sub_name(sid, sub))
+    for code, want in [(0x22, "conditionsNotCorrect"), (0x73, "wrongBlockSequenceCounter"), (0x94, "negative response")]:
+        told(uds_names.negative_name(code) == f"{want} (0x{code:02X})", f"the name of an NRC: {want}", uds_names.negative_name(code))
+    told(not uds_names.NEGATIVE.keys() & uds_names.OTHER_NEGATIVE.keys(), "an NRC stands once")
 
 
 # ---- the texts of the worked examples
@@ -409,7 +417,7 @@ def parted(_):
         ("1906056200FF 59060562002F01020304", "19 06 056200 FF ReadDTCInformation reportDTCExtDataRecordByDTCNumber -> 59 06 056200 2F 01 020304"),
         ("1906056200FF 5906056200", "19 06 056200 FF ReadDTCInformation reportDTCExtDataRecordByDTCNumber -> 59 06 056200"),
         ("19022F 5902FF0562002FC1000004", "19 02 2F ReadDTCInformation reportDTCByStatusMask -> 59 02 FF 056200 2F C10000 04"),
-        ("19420033FF08 59420033FF", "19 42 0033FF08 ReadDTCInformation -> 59 42 0033FF"),
+        ("19420033FF08 59420033FF", "19 42 0033FF08 ReadDTCInformation reportWWHOBDDTCByMaskRecord -> 59 42 0033FF"),
         ("19 -", "19 ReadDTCInformation -> no reply (by its row)"),
     ]:
         setup = f'tester = [{{ name = "A", request = 0x7E0, response = 0x7E8 }}]\nanswer = [{{ request = "19*", reply = [""] }}]\n'
