@@ -457,6 +457,9 @@ def faults(room):
     for name, setup in [("a setup", 'tester = "x"'), ("lists within lists", "x = " + "[" * 9999)]:
         ran = subprocess.run([VIEW, put(f"{room}/0", setup), paths[0]], capture_output=True, timeout=60)
         told(ran.returncode == 1 and ran.stderr.startswith(b"view: config: "), f"a fault: {name}", ran)
+    ran = subprocess.run([VIEW, config, put(f"{room}/nothing", ""), "-"], stdin=subprocess.DEVNULL, capture_output=True, timeout=60)
+    note = b"view: note: nothing is shown, for nothing stands in nothing, standard input\n"
+    told(ran.returncode == 0 and ran.stderr == note and b"<html" in ran.stdout, "an empty file", ran.stderr)
     ran = subprocess.run([VIEW, config], capture_output=True, timeout=60)
     told(ran.returncode == 1 and b"required: RUN" in ran.stderr, "a word too few", ran)
     newer = 'tester = [{ name = "A", # one\n request = 0x7E0,\n response = 0x7E8,\n}]\n'
