@@ -1,12 +1,23 @@
 # Completion of uds_play for bash: source this file, or put it into the folder of bash-completion.
 _uds_play() {
-  local word=${COMP_WORDS[COMP_CWORD]} command='' given=0 flags='' pattern='*.log' at
-  for ((at = 1; at < COMP_CWORD; at++)); do
-    case ${COMP_WORDS[at]} in
-      -*) ;;
-      *) if [ -z "$command" ]; then command=${COMP_WORDS[at]}; else given=$((given + 1)); fi ;;
+  local word=${COMP_WORDS[COMP_CWORD]} command='' given=0 flags='' pattern='*.log' wants='' it
+  for it in "${COMP_WORDS[@]:1:COMP_CWORD - 1}"; do
+    if [ -n "$wants" ]; then
+      # a flag's value, before which = may stand as a word of its own
+      [ "$it" = = ] || wants=''
+      continue
+    fi
+    case $it in
+      --interface | --record) wants=$it ;;
+      -?*) ;;
+      *) if [ -z "$command" ]; then command=$it; else given=$((given + 1)); fi ;;
     esac
   done
+  COMPREPLY=()
+  case $wants in
+    --record) mapfile -t COMPREPLY < <(compgen -f -- "${word#=}") ;;
+  esac
+  [ -z "$wants" ] || return 0
   case $command in
     '') flags="check bus verify compare live serial play replay --quiet --help --version" ;;
     check) flags="--quiet --help" ;;

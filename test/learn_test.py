@@ -27,7 +27,7 @@ import live
 from learn_judge import Exchange
 from learn_model import Held, one_round, s3_of
 from learn_rows import Case, pattern_of, shortened, template_of
-from learn_setup import between, code_name
+from learn_setup import Row, between, code_name, row_words
 from uds_link import LENGTHS, cut
 from uds_link import Setup as LinkSetup
 
@@ -551,6 +551,15 @@ class OfTheParts(unittest.TestCase):
 
     def test_code_names(self) -> None:
         self.assertEqual(["P0562-00", "U0100-11", "C1234-56", "B2ABC-DE"], [code_name(it) for it in (0x056200, 0xC10011, 0x523456, 0xAABCDE)])
+
+    def test_words_of_rows(self) -> None:
+        rows = [Row("2743", ["7F2770"]), Row("1905*", ["7F1994"]), Row("1003", [""])]
+        want = [
+            "SecurityAccess requestSeed, uploadDownloadNotAccepted",
+            "ReadDTCInformation reportDTCStoredDataByRecordNumber, refused",
+            "DiagnosticSessionControl extendedDiagnosticSession, no answer",
+        ]
+        self.assertEqual(want, [row_words(it) for it in rows])
 
     def test_patterns(self) -> None:
         self.assertEqual("28..01", pattern_of([b"\x28\x03\x01", b"\x28\x00\x01"]))

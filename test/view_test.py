@@ -56,6 +56,14 @@ def whole(path):
 
 def names(_):
     told(uds_names.table() in whole(f"{TOP}/docs/VIEW.md"), "the names in docs/VIEW.md are those of the tool")
+    for sid, sub, want in [
+        (0x27, 0x42, "sendKey"), (0x27, 0x43, "requestSeed"), (0x27, 0xFE, "sendKey"), (0x27, 0x7F, ""),
+        (0x19, 0x05, "reportDTCStoredDataByRecordNumber"), (0x19, 0x0A, "reportSupportedDTC"), (0x11, 0x06, ""),
+    ]:
+        told(uds_names.sub_name(sid, sub) == want, f"the name of {sid:02X} {sub:02X}: {want}", uds_names.sub_name(sid, sub))
+    for code, want in [(0x22, "conditionsNotCorrect"), (0x73, "wrongBlockSequenceCounter"), (0x94, "negative response")]:
+        told(uds_names.negative_name(code) == f"{want} (0x{code:02X})", f"the name of an NRC: {want}", uds_names.negative_name(code))
+    told(not uds_names.NEGATIVE.keys() & uds_names.OTHER_NEGATIVE.keys(), "an NRC stands once")
 
 
 # ---- the texts of the worked examples
@@ -348,6 +356,17 @@ def late(_):
 # ---- the recorded unit beside the server
 
 
+def first_bytes(_):
+    """Where two answers that differ read alike, the text tells the first byte that does."""
+    for sent, want in [("FF", "byte 59: FF, server 38"), ("38FF", "")]:
+        found = text_of(bus.SETUP, behind_cut(sent))
+        told(f"({want})\n" in found if want else "(byte" not in found, f"the first byte that differs: {want or 'in sight'}", found)
+    dtcs = "".join(f"{it:06X}2F" for it in range(20))
+    cut = f"1 0000000100.000000 A P 1902FF 5902FF{dtcs}0000 5902FF{dtcs}00 5 0\nA 1 exchanges, 1 differ\n"
+    found = text_of(bus.SETUP, cut)
+    told("(byte 84: 00, server none)\n" in found, "the first byte that the server doesn't have", found)
+
+
 def spoilt():
     """The demo's other unit, with a byte of a value and P2* changed, and a message that nobody asked."""
     text = whole(f"{TOP}/demo/other_unit.log")
@@ -367,6 +386,12 @@ BESIDE = """\
 51 1763800001.600 end_of_line  3E 80 TesterPresent zeroSubFunction -> no answer
 87 1763800004.000 workshop     nobody asked -> 50 03  * server: no answer
 """
+
+
+def behind_cut(sent="FF"):
+    """What `compare` writes of two long answers that differ at the last byte alone."""
+    value = f"620100{bytes(range(56)).hex().upper()}"
+    return f"1 0000000100.000000 A P 220100 {value}{sent} {value}38 5 0\nA 1 exchanges, 1 differ\n"
 
 
 def beside(room):
@@ -392,7 +417,7 @@ def parted(_):
         ("1906056200FF 59060562002F01020304", "19 06 056200 FF ReadDTCInformation reportDTCExtDataRecordByDTCNumber -> 59 06 056200 2F 01 020304"),
         ("1906056200FF 5906056200", "19 06 056200 FF ReadDTCInformation reportDTCExtDataRecordByDTCNumber -> 59 06 056200"),
         ("19022F 5902FF0562002FC1000004", "19 02 2F ReadDTCInformation reportDTCByStatusMask -> 59 02 FF 056200 2F C10000 04"),
-        ("19420033FF08 59420033FF", "19 42 0033FF08 ReadDTCInformation -> 59 42 0033FF"),
+        ("19420033FF08 59420033FF", "19 42 0033FF08 ReadDTCInformation reportWWHOBDDTCByMaskRecord -> 59 42 0033FF"),
         ("19 -", "19 ReadDTCInformation -> no reply (by its row)"),
     ]:
         setup = f'tester = [{{ name = "A", request = 0x7E0, response = 0x7E8 }}]\nanswer = [{{ request = "19*", reply = [""] }}]\n'
@@ -432,6 +457,9 @@ def faults(room):
     for name, setup in [("a setup", 'tester = "x"'), ("lists within lists", "x = " + "[" * 9999)]:
         ran = subprocess.run([VIEW, put(f"{room}/0", setup), paths[0]], capture_output=True, timeout=60)
         told(ran.returncode == 1 and ran.stderr.startswith(b"view: config: "), f"a fault: {name}", ran)
+    ran = subprocess.run([VIEW, config, put(f"{room}/nothing", ""), "-"], stdin=subprocess.DEVNULL, capture_output=True, timeout=60)
+    note = b"view: note: nothing is shown, for nothing stands in nothing, standard input\n"
+    told(ran.returncode == 0 and ran.stderr == note and b"<html" in ran.stdout, "an empty file", ran.stderr)
     ran = subprocess.run([VIEW, config], capture_output=True, timeout=60)
     told(ran.returncode == 1 and b"required: RUN" in ran.stderr, "a word too few", ran)
     newer = 'tester = [{ name = "A", # one\n request = 0x7E0,\n response = 0x7E8,\n}]\n'
@@ -563,6 +591,19 @@ def long_frames(room, page):
     found = page.ask(AFTER_DRAWING % "[...document.querySelectorAll('text.frame')].map((it) => it.textContent.split(' ').pop())")
     want = [frame[at : at + 64] for frame in re.findall("##1([0-9A-F]+)", text) for at in range(0, len(frame), 64)]
     told(found == want and len(want) == 4 and is_quiet(page), "a frame of more than 32 bytes opens to two lines", found)
+
+
+def wide(room, page):
+    """A chart is as wide as what it says, and scrolls; two long answers stand beside each other."""
+    page.open(page_of(room, whole(f"{TOP}/runs/fd.toml"), whole(f"{TOP}/runs/bus/fd_long/bus.stdout")), 900, 700)
+    page.ask("opened.add(0); show(); 0")
+    ends = "[...document.querySelectorAll('#chart text')].map((it) => it.getBoundingClientRect().right)"
+    found = page.ask(AFTER_DRAWING % f"[Math.max(...{ends}), chart.scroller.scrollWidth, chart.scroller.clientWidth]")
+    told(found[2] < found[0] <= found[1] and is_quiet(page), "a long frame can be scrolled to", found)
+    page.open(page_of(room, bus.SETUP, behind_cut()), 900, 700)
+    sides = "['sent', 'expected'].map((it) => document.querySelector(`text.differs.${it}`).getBoundingClientRect())"
+    found = page.ask(f"(([one, two]) => [one.right, two.left, two.right, chart.scroller.scrollWidth])({sides})")
+    told(found == sorted(found) and is_quiet(page), "two long answers beside each other", found)
 
 
 def later(room, page):
@@ -700,7 +741,7 @@ def pages(room):
         print(f"view: Chromium can't be used here ({it}): the pages aren't opened", flush=True)
         return
     try:
-        for group in (whole_pages, frames_page, by_mouse, long_frames, later, beside_page, not_sent, by_filter, hostile, long_page, pictures):
+        for group in (whole_pages, frames_page, by_mouse, long_frames, wide, later, beside_page, not_sent, by_filter, hostile, long_page, pictures):
             group(room, page)
     finally:
         page.close()
@@ -720,7 +761,7 @@ def main():
     if sys.argv[1:] == ["--pictures"]:
         return make_pictures()
     told.needs_program()
-    told.in_rooms(names, texts, lines_a_step, sessions, silence, late, beside, parted, line_ends, faults, pages)
+    told.in_rooms(names, texts, lines_a_step, sessions, silence, late, beside, first_bytes, parted, line_ends, faults, pages)
     return told.ended()
 
 

@@ -39,6 +39,16 @@ TRIED = (
     (["uds_play", "verify", "unit.toml", ""], ["drive.log", "folder"]),
     (["uds_play", "compare", "--differences", "unit.toml", ""], ["drive.log", "folder"]),
     (["uds_play", "replay", "unit.toml", ""], ["drive.log", "folder", "journal", "unit.toml"]),
+    (["uds_play", "bus", "--interface", ""], []),
+    (["uds_play", "bus", "--interface", "can0", ""], ["folder", "unit.toml"]),
+    (["uds_play", "bus", "--interface", "=", "can0", ""], ["folder", "unit.toml"]),
+    (["uds_play", "bus", "--interface=can0", ""], ["folder", "unit.toml"]),
+    (["uds_play", "bus", "--interface", "can0", "unit.toml", ""], ["drive.log", "folder"]),
+    (["uds_play", "live", "--record", "d"], ["drive.log"]),
+    (["uds_play", "live", "--record", "="], ["drive.log", "folder", "journal", "unit.toml"]),
+    (["uds_play", "live", "--record", "=", "j"], ["journal"]),
+    (["uds_play", "live", "--record", "new.log", ""], ["folder", "unit.toml"]),
+    (["uds_play", "bus", "-", ""], ["drive.log", "folder"]),
 )
 told = Tally("words")
 
@@ -99,17 +109,36 @@ def page(whole, commands):
     return "\n".join([*lines, ".SH EXIT STATUS", *rows_of(STATUS), ""])
 
 
+def values_of(commands):
+    """The flags that take a value, each with what its help calls that."""
+    rows = " ".join(row[0] for parts in commands.values() for row in parts["Options"])
+    return dict(re.findall(r"(--[a-z]+) <([A-Z]+)>", rows))
+
+
 def completion(whole, commands):
     cases = "".join(f"    {name}) flags=\"{' '.join(flags_of(parts))}\" ;;\n" for name, parts in commands.items())
+    values = values_of(commands)
+    files = " | ".join(flag for flag, value in values.items() if value == "FILE")
     return f"""# Completion of uds_play for bash: source this file, or put it into the folder of bash-completion.
 _uds_play() {{
-  local word=${{COMP_WORDS[COMP_CWORD]}} command='' given=0 flags='' pattern='*.log' at
-  for ((at = 1; at < COMP_CWORD; at++)); do
-    case ${{COMP_WORDS[at]}} in
-      -*) ;;
-      *) if [ -z "$command" ]; then command=${{COMP_WORDS[at]}}; else given=$((given + 1)); fi ;;
+  local word=${{COMP_WORDS[COMP_CWORD]}} command='' given=0 flags='' pattern='*.log' wants='' it
+  for it in "${{COMP_WORDS[@]:1:COMP_CWORD - 1}}"; do
+    if [ -n "$wants" ]; then
+      # a flag's value, before which = may stand as a word of its own
+      [ "$it" = = ] || wants=''
+      continue
+    fi
+    case $it in
+      {' | '.join(values)}) wants=$it ;;
+      -?*) ;;
+      *) if [ -z "$command" ]; then command=$it; else given=$((given + 1)); fi ;;
     esac
   done
+  COMPREPLY=()
+  case $wants in
+    {files}) mapfile -t COMPREPLY < <(compgen -f -- "${{word#=}}") ;;
+  esac
+  [ -z "$wants" ] || return 0
   case $command in
     '') flags="{' '.join([*commands, *flags_of(whole)])}" ;;
 {cases}  esac

@@ -308,6 +308,17 @@ def show_exchanges(setup, name, text, title, as_text):
         sys.stdout.write(page(exchanges_data(setup, report, name, title), "exchanges"))
 
 
+def file_name(path):
+    return "standard input" if path == "-" else os.path.basename(path)
+
+
+def note_empty(texts):
+    """Says so where there is nothing to show. It is no fault: `bus` writes nothing where the unit sends nothing."""
+    if not any(text for _, text in texts):
+        names = ", ".join(file_name(it) for it, _ in texts)
+        print(f"view: note: nothing is shown, for nothing stands in {names}", file=sys.stderr)
+
+
 class CommandLine(argparse.ArgumentParser):
     """The words of the command line; where they are at fault the status is 1."""
 
@@ -323,10 +334,11 @@ def main(given=None):
     words.add_argument("setup", metavar="SETUP")
     words.add_argument("run", metavar="RUN", nargs="+")
     given = words.parse_args(given)
-    title = given.title or " ".join("standard input" if it == "-" else os.path.basename(it) for it in given.run)
+    title = given.title or " ".join(file_name(it) for it in given.run)
     try:
         setup = read_setup(read(given.setup))
         texts = [(it, read_lines(it)) for it in given.run]
+        note_empty(texts)
         if len(texts) == 1 and is_report(texts[0][1]):
             show_exchanges(setup, *texts[0], title, given.text)
         else:

@@ -5,7 +5,7 @@ from dataclasses import dataclass, field
 from typing import Iterator, Optional
 
 from learn_bus import FUNCTIONAL, FUNCTIONAL_29, LENGTHS, Pair, Sending
-from uds_names import IDENTIFIERS, NEGATIVE, service_name, sub_name
+from uds_names import IDENTIFIERS, refusal, service_name, sub_name
 
 # the times of links that a setup has where it says nothing
 N_CR, N_BS, LONGEST = 1000, 1000, 4095
@@ -302,7 +302,7 @@ def row_words(row: Row) -> str:
         return f"{found}, no answer"
     only = row.reply[0] if row.reply and len(row.reply) == 1 else ""
     is_negative = len(only) == 6 and only.startswith("7F") and only[4:].isalnum()
-    return f"{found}, {NEGATIVE.get(int(only[4:], 16), 'refused')}" if is_negative else found
+    return f"{found}, {refusal(int(only[4:], 16), 'refused')}" if is_negative else found
 
 
 def reply_lines(reply: Optional[list[str]]) -> Iterator[str]:

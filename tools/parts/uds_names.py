@@ -14,6 +14,11 @@ class Service:
     subs: dict = field(default_factory=dict)
 
 
+def seeds_and_keys(first, last):
+    """The sub-functions of SecurityAccess from the first to the last one."""
+    return {sub: "requestSeed" if sub % 2 else "sendKey" for sub in range(first, last + 1)}
+
+
 # the services that the unit has, by their identifiers
 SERVICES = {
     0x10: Service(
@@ -27,7 +32,7 @@ SERVICES = {
         {1: "reportNumberOfDTCByStatusMask", 2: "reportDTCByStatusMask", 0x0A: "reportSupportedDTC"},
     ),
     0x22: Service("ReadDataByIdentifier"),
-    0x27: Service("SecurityAccess", {sub: "requestSeed" if sub % 2 else "sendKey" for sub in range(1, 67)}),
+    0x27: Service("SecurityAccess", seeds_and_keys(1, 0x42)),
     0x2E: Service("WriteDataByIdentifier"),
     0x31: Service("RoutineControl", {1: "startRoutine", 2: "stopRoutine", 3: "requestRoutineResults"}),
     0x3E: Service("TesterPresent", {0: "zeroSubFunction"}),
@@ -60,13 +65,30 @@ OTHER_SUBS = {
     0x19: {
         3: "reportDTCSnapshotIdentification",
         4: "reportDTCSnapshotRecordByDTCNumber",
+        5: "reportDTCStoredDataByRecordNumber",
         6: "reportDTCExtDataRecordByDTCNumber",
         7: "reportNumberOfDTCBySeverityMaskRecord",
         8: "reportDTCBySeverityMaskRecord",
         9: "reportSeverityInformationOfDTC",
+        0x0B: "reportFirstTestFailedDTC",
+        0x0C: "reportFirstConfirmedDTC",
+        0x0D: "reportMostRecentTestFailedDTC",
+        0x0E: "reportMostRecentConfirmedDTC",
+        0x0F: "reportMirrorMemoryDTCByStatusMask",
+        0x10: "reportMirrorMemoryDTCExtDataRecordByDTCNumber",
+        0x11: "reportNumberOfMirrorMemoryDTCByStatusMask",
+        0x12: "reportNumberOfEmissionsOBDDTCByStatusMask",
+        0x13: "reportEmissionsOBDDTCByStatusMask",
         0x14: "reportDTCFaultDetectionCounter",
         0x15: "reportDTCWithPermanentStatus",
+        0x16: "reportDTCExtDataRecordByRecordNumber",
+        0x17: "reportUserDefMemoryDTCByStatusMask",
+        0x18: "reportUserDefMemoryDTCSnapshotRecordByDTCNumber",
+        0x19: "reportUserDefMemoryDTCExtDataRecordByDTCNumber",
+        0x42: "reportWWHOBDDTCByMaskRecord",
+        0x55: "reportWWHOBDDTCWithPermanentStatus",
     },
+    0x27: seeds_and_keys(0x43, 0x7E),
     0x28: {0: "enableRxAndTx", 1: "enableRxAndDisableTx", 2: "disableRxAndEnableTx", 3: "disableRxAndTx"},
 }
 # the identifiers that ISO 14229-1:2013 gives a name to (annex C.1)
@@ -119,6 +141,35 @@ NEGATIVE = {
     0x78: "requestCorrectlyReceived-ResponsePending",
     0x7F: "serviceNotSupportedInActiveSession",
 }
+# those that another unit may give (annex A.1)
+OTHER_NEGATIVE = {
+    0x10: "generalReject",
+    0x25: "noResponseFromSubnetComponent",
+    0x26: "failurePreventsExecutionOfRequestedAction",
+    0x70: "uploadDownloadNotAccepted",
+    0x71: "transferDataSuspended",
+    0x72: "generalProgrammingFailure",
+    0x73: "wrongBlockSequenceCounter",
+    0x7E: "subFunctionNotSupportedInActiveSession",
+    0x81: "rpmTooHigh",
+    0x82: "rpmTooLow",
+    0x83: "engineIsRunning",
+    0x84: "engineIsNotRunning",
+    0x85: "engineRunTimeTooLow",
+    0x86: "temperatureTooHigh",
+    0x87: "temperatureTooLow",
+    0x88: "vehicleSpeedTooHigh",
+    0x89: "vehicleSpeedTooLow",
+    0x8A: "throttle/PedalTooHigh",
+    0x8B: "throttle/PedalTooLow",
+    0x8C: "transmissionRangeNotInNeutral",
+    0x8D: "transmissionRangeNotInGear",
+    0x8F: "brakeSwitch(es)NotClosed",
+    0x90: "shifterLeverNotInPark",
+    0x91: "torqueConverterClutchLocked",
+    0x92: "voltageTooHigh",
+    0x93: "voltageTooLow",
+}
 
 
 def service_name(sid):
@@ -132,9 +183,14 @@ def sub_name(sid, sub):
     return {**OTHER_SUBS.get(sid, {}), **own}.get(sub & 0x7F, "")
 
 
+def refusal(code, unknown):
+    """The name of a negative response code, or what it is called without one."""
+    return {**OTHER_NEGATIVE, **NEGATIVE}.get(code, unknown)
+
+
 def negative_name(code):
     """A negative response code by its name and number."""
-    return f"{NEGATIVE.get(code, 'negative response')} (0x{code:02X})"
+    return f"{refusal(code, 'negative response')} (0x{code:02X})"
 
 
 def subs_in_words(sid, subs):
@@ -144,15 +200,22 @@ def subs_in_words(sid, subs):
     return ", ".join(f"{sub:02X} {name}" for sub, name in subs.items())
 
 
+def other_subs(sid, subs):
+    """The sub-functions of a service that aren't in the unit, as text."""
+    if sid == 0x27:
+        return f"27 {min(subs):02X} to {max(subs):02X} ({subs_in_words(sid, subs)})"
+    return ", ".join(f"{sid:02X} {sub:02X} {name}" for sub, name in subs.items())
+
+
 def table():
     """The tables of docs/VIEW.md, as text."""
     rows = ["| Service | Name | Sub-functions |", "|---|---|---|"]
     rows += [f"| {sid:02X} | {it.name} | {subs_in_words(sid, it.subs)} |" for sid, it in SERVICES.items()]
     rows += ["", f"Not in the unit: {', '.join(f'{sid:02X} {name}' for sid, name in OTHERS.items())}."]
-    others = (f"{sid:02X} {sub:02X} {name}" for sid, subs in OTHER_SUBS.items() for sub, name in subs.items())
-    rows += ["", f"Sub-functions not in the unit: {', '.join(others)}."]
+    rows += ["", f"Sub-functions not in the unit: {', '.join(other_subs(sid, subs) for sid, subs in OTHER_SUBS.items())}."]
     rows += ["", "| NRC | Name |", "|---|---|"]
     rows += [f"| 0x{code:02X} | {name} |" for code, name in NEGATIVE.items()]
+    rows += ["", f"NRCs not of the unit: {', '.join(f'0x{code:02X} {name}' for code, name in OTHER_NEGATIVE.items())}."]
     return "".join(f"{it}\n" for it in rows)
 
 

@@ -1,5 +1,6 @@
 """What `compare` wrote, for tools/view.py: each exchange with what the recorded unit sent beside what the server replies.
 No part of what is proved."""
+from itertools import zip_longest
 from typing import Iterator
 
 from uds_compared import NOTHING, Compared, Report
@@ -45,6 +46,23 @@ def is_silent(it: Compared) -> bool:
     return it.expected == "-" or (it.expected == "=" and it.sent is None)
 
 
+def first_other(it: Compared) -> str:
+    """The first byte, from 0, that differs, for answers that read alike: their words leave out what is long."""
+    for at, pair in enumerate(zip_longest(it.sent or b"", bytes.fromhex(expected_digits(it)))):
+        own, server = ("none" if byte is None else f"{byte:02X}" for byte in pair)
+        if own != server:
+            return f" (byte {at}: {own}, server {server})"
+    return ""
+
+
+def server_note(it: Compared, setup: Setup) -> str:
+    """What a line says of the server's reply; nothing where it agrees."""
+    if not it.differs():
+        return "  * ignored" if it.is_ignored() else ""
+    words = expected_words(it, setup)
+    return f"  * server: {words}{first_other(it) if words == sent_words(it, setup) else ''}"
+
+
 def checked(setup: Setup, report: Report, name: str) -> list[Compared]:
     """The exchanges, by their lines; Wrong where they aren't of this setup, or a line is none of `compare`'s."""
     if report.stray:
@@ -69,8 +87,8 @@ def exchanges_text(setup: Setup, report: Report, name: str) -> Iterator[str]:
         wait = f" after {it.wait} ms" if it.wait is not None else ""
         often = "once" if it.pendings == 1 else f"{it.pendings} times"
         pendings = f", response pending {often} before" if it.pendings else ""
-        server = f"  * server: {expected_words(it, setup)}" if it.differs() else "  * ignored" if it.is_ignored() else ""
-        yield f"{it.line:>{wide}} {stamp} {it.name:<{names}}  {ask_words(it)} -> {sent_words(it, setup)}{wait}{pendings}{server}\n"
+        answer = f"{sent_words(it, setup)}{wait}{pendings}{server_note(it, setup)}"
+        yield f"{it.line:>{wide}} {stamp} {it.name:<{names}}  {ask_words(it)} -> {answer}\n"
 
 
 # ---- the page

@@ -75,13 +75,20 @@ class Strip {
   }
 
   fit() {
-    this.sight.style.height = `${this.view}px`;
-    this.room.style.height = `${Math.max(Math.min(this.total, HIGHEST), this.view)}px`;
+    this.size();
     this.redraw();
   }
 
+  size() {
+    this.sight.style.height = `${this.view}px`;
+    this.room.style.height = `${Math.max(Math.min(this.total, HIGHEST), this.view)}px`;
+  }
+
   redraw() {
-    this.draw(this.top, this.view);
+    const { view } = this;
+    this.draw(this.top, view);
+    // what was drawn may be wider than the window: the scroll bar that comes then takes from the height
+    if (this.view !== view) this.size();
   }
 
   // Brings a place of some height into sight, where it isn't.

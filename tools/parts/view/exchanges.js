@@ -67,12 +67,17 @@ function show() {
   place();
 }
 
+function heightOfDetails(item) {
+  const count = opened.has(item) ? detailsOf(item).length : 0;
+  return count > 0 ? BYTES * count + 4 : 0;
+}
+
 // Gives each row its place.
 function place() {
   let y = 0;
   for (const row of rows) {
     row.y = y;
-    row.height = STEP + (opened.has(row.item) ? BYTES * detailsOf(row.item).length + 4 : 0);
+    row.height = STEP + heightOfDetails(row.item);
     y += row.height;
   }
   chart.total = y + HEAD;
@@ -81,14 +86,29 @@ function place() {
 
 // ---- the chart
 
-const UNIT = 170, MARGIN = 60, LEAST_TEXT = 330, LEAST_APART = 64, MOST_APART = 150;
+const UNIT = 170, MARGIN = 60, INSET = 10, GAP = 30, LEAST_TEXT = 330, LEAST_APART = 64, MOST_APART = 150;
 let apart = MOST_APART, first = 0, server = 0;
 const testerX = (at) => first + at * apart;
+
+// measures words in the widest font that page.css gives them
+const ruler = document.createElement("canvas").getContext("2d");
+ruler.font = "600 12px system-ui, sans-serif";
+const wideOf = (words) => ruler.measureText(words).width;
+const wide = texts.map(([words]) => wideOf(words));
+
+// How far apart the unit and the server are for an exchange: its answers stand beside each other, its request above them.
+function roomOf(item) {
+  const answers = wide[exchanges.sent[item]] + wideOf(noteOf(item)) + GAP + wide[exchanges.expected[item]];
+  return Math.ceil(Math.max(answers, wide[exchanges.ask[item]])) + 2 * INSET;
+}
+
+const mostRoom = exchanges.line.reduce((most, _, item) => Math.max(most, roomOf(item)), 0);
 
 // Sets the testers in the middle, as far apart as the window has room; returns how wide the chart is.
 function setApart() {
   const between = Math.max(names.length - 1, 0);
-  const width = Math.max(chart.scroller.clientWidth, UNIT + MARGIN + 2 * LEAST_TEXT + LEAST_APART * between);
+  const least = Math.max(2 * LEAST_TEXT + LEAST_APART * between, mostRoom);
+  const width = Math.max(chart.scroller.clientWidth, UNIT + MARGIN + least);
   const room = (width - UNIT - MARGIN - 2 * LEAST_TEXT) / Math.max(between, 1);
   apart = Math.round(Math.min(Math.max(room, LEAST_APART), MOST_APART));
   server = width - MARGIN;
@@ -122,11 +142,11 @@ function drawRow(svg, row, y) {
     group.append(arrow(x, UNIT, y + 18, how), arrow(x, server, y + 18, how));
   }
   group.append(
-    label(wordsOf("ask", item), UNIT + 10, y + 14, "request", "sent"),
+    label(wordsOf("ask", item), UNIT + INSET, y + 14, "request", "sent"),
     answer(UNIT, x, y + 38, item, digitsOf("sent", item) === ""),
-    label(wordsOf("sent", item) + noteOf(item), UNIT + 10, y + 34, state, "sent"),
+    label(wordsOf("sent", item) + noteOf(item), UNIT + INSET, y + 34, state, "sent"),
     answer(server, x, y + 38, item, exchanges.silent[item] === 1),
-    label(wordsOf("expected", item), server - 10, y + 34, state, "expected"),
+    label(wordsOf("expected", item), server - INSET, y + 34, state, "expected"),
   );
   if (opened.has(item)) drawDetails(group, item, y + STEP);
   svg.append(group);

@@ -329,21 +329,35 @@ function drawHead(svg, width) {
   });
 }
 
+// how far the words reach that were drawn so far; it never falls, or scrolling would jump
+let reach = 0;
+
+// How wide a chart is drawn, whose words may go beyond the testers.
+function widened(svg, width) {
+  for (const text of svg.querySelectorAll("text")) {
+    const box = text.getBBox();
+    reach = Math.max(reach, Math.ceil(box.x + box.width) + 10);
+  }
+  return Math.max(width, reach);
+}
+
 function drawChart(top, view) {
-  const width = setApart();
+  const width = Math.max(setApart(), reach);
   const svg = element("svg", { width, height: view });
   const first = Math.max(lastAt(rows, (row) => row.y, top), 0);
   let end = first;
   while (end < rows.length && rows[end].y < top + view - HEAD) end++;
   const seen = rows.slice(first, end);
   for (const row of seen.filter(isLit)) {
-    svg.append(element("rect", { x: 0, y: row.y - top + HEAD, width, height: row.height, class: "lit" }));
+    svg.append(element("rect", { x: 0, y: row.y - top + HEAD, width: "100%", height: row.height, class: "lit" }));
   }
   drawLives(svg, view);
   drawBars(svg, seen, top - HEAD);
   for (const row of seen) drawRow(svg, row, row.y - top + HEAD);
-  drawHead(svg, width);
   chart.sight.replaceChildren(svg);
+  const whole = widened(svg, width);
+  svg.setAttribute("width", whole);
+  drawHead(svg, whole);
 }
 
 function rowAt(y) {
