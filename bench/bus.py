@@ -12,7 +12,7 @@ benchmark and no test.
                             that differ
 
 For each run of the first three: lines of the capture per second, of three runs the quickest. The time of a line should
-be no more than `serial` takes, and of `compare` no more than twice that of `verify`, which it isn't yet; the memory
+be no more than `serial` takes, and of `compare` no more than twice that of `verify`, which eight testers don't reach; the memory
 the same for both lengths. The lines are those of bench/runs.py, the testers' turns of twelve lines one behind the other. The program is
 that of `./uds_play`.
 """
