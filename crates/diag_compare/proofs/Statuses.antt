@@ -16,8 +16,7 @@ use Rattle.diag_exchange.specs.Exchanges.{exchange}
 use Rattle.diag_exchange.specs.Meaning.{Means}
 use Rattle.diag_exchange.specs.Taking.{is_exchange}
 use Rattle.diag_exchange.specs.declared.happening.Expected.{Expected}
-use Rattle.diag_exchange.specs.declared.happening.Over.{Over}
-use Rattle.diag_exchange.specs.declared.happening.Over.TheVariants.{Exchange, Unasked}
+use Rattle.diag_exchange.specs.Over.{Over, Exchange, Unasked}
 use Rattle.diag_exchange.proofs.Lists.{or_left, or_right}
 use Rattle.diag_exchange.proofs.Meanings.{means}
 use Rattle.diag_exchange.proofs.Once.{told_once}

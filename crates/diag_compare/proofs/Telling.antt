@@ -8,7 +8,7 @@ use Rattle.diag_exchange.specs.Exchanges.{left_open, over, over_with}
 use Rattle.diag_exchange.specs.Exchanges as exchanges
 use Rattle.diag_exchange.specs.declared.happening.Expected.{Expected}
 use Rattle.diag_exchange.specs.declared.happening.Happening.{Happening}
-use Rattle.diag_exchange.specs.declared.happening.Over.{Over}
+use Rattle.diag_exchange.specs.Over.{Over}
 use Rattle.diag_compare.specs.Compare.{beside, open_for, over_by}
 use Rattle.diag_compare.specs.Hearing.{happen_after, happenings, line_happens}
 use Rattle.diag_compare.specs.Meaning.{over_after}

@@ -11,7 +11,7 @@ use Rattle.diag_bus.specs.Verdict.{numbers}
 use Rattle.diag_exchange.specs.Agreeing.{is_compared}
 use Rattle.diag_exchange.specs.Exchanges.{left_open, over, over_at_end}
 use Rattle.diag_exchange.specs.declared.happening.Expected.{Expected}
-use Rattle.diag_exchange.specs.declared.happening.Over.{Over}
+use Rattle.diag_exchange.specs.Over.{Over}
 use Rattle.diag_judge.specs.Judging.{differs}
 use Rattle.diag_compare.specs.Hearing.{happenings}
 use Rattle.diag_compare.specs.Told.{line_number, told_line}

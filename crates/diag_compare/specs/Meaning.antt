@@ -19,7 +19,7 @@ use Rattle.diag_exchange.specs.Taking.{is_exchange}
 use Rattle.diag_exchange.specs.declared.happening.Expected.{Expected}
 use Rattle.diag_exchange.specs.declared.happening.Happening.{Happening}
 use Rattle.diag_exchange.specs.declared.happening.Heard.{Heard}
-use Rattle.diag_exchange.specs.declared.happening.Over.{Over}
+use Rattle.diag_exchange.specs.Over.{Over}
 use Rattle.diag_exchange.specs.declared.happening.Start.{Start}
 use Rattle.diag_compare.specs.Compare.{all_exchanges, beside, exchanges, open_for, over_by, status}
 use Rattle.diag_compare.specs.Expects.{expects}

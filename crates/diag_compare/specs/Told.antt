@@ -4,7 +4,7 @@ use Rattle.diag_setup.specs.Setup.{name_of}
 use Rattle.diag_setup.specs.declared.raw.RawSetup.{RawSetup}
 use Rattle.diag_bus.specs.Text.{bus_moment, start_after}
 use Rattle.diag_exchange.specs.Agreeing.{agrees}
-use Rattle.diag_exchange.specs.declared.happening.Over.{Over}
+use Rattle.diag_exchange.specs.Over.{Over}
 use Rattle.diag_exchange.specs.declared.happening.CaptureLine.{CaptureLine}
 use Rattle.diag_told.specs.Told.{capture_line_told, told_text}
 

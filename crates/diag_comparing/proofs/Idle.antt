@@ -11,7 +11,7 @@ use Rattle.diag_setup.specs.declared.raw.RawSetup.{RawSetup}
 use Rattle.diag_desk.specs.declared.entry.Entry.{Entry}
 use Rattle.diag_world.proofs.Worlds.{set_cases}
 use Rattle.diag_bus.specs.Events.{frame_said}
-use Rattle.diag_exchange.specs.declared.happening.Over.{Over}
+use Rattle.diag_exchange.specs.Over.{Over}
 use Rattle.diag_exchange.specs.declared.happening.CaptureLine.{CaptureLine}
 use Rattle.diag_judge.specs.Judging.{JudgesLine}
 use Rattle.diag_judge.specs.declared.tester.Tester.{Tester}

@@ -14,7 +14,7 @@ use Rattle.diag_bus.specs.Events.{line_said}
 use Rattle.diag_bus.specs.Text.{bus_moment, start_after, start_said}
 use Rattle.diag_bus.specs.declared.clock.Start.{Start}
 use Rattle.diag_exchange.specs.Agreeing.{agrees}
-use Rattle.diag_exchange.specs.declared.happening.Over.{Over}
+use Rattle.diag_exchange.specs.Over.{Over}
 use Rattle.diag_judge.specs.declared.tester.Judged.{Judged}
 use Rattle.diag_told.specs.Told.{capture_line_told, told_text}
 use Rattle.diag_compare.specs.Compare.{compared_after, compared_by, is_told, lines_of}

@@ -18,7 +18,7 @@ use Rattle.diag_bus.specs.Text.{bus_moment, ecu_after, start_after}
 use Rattle.diag_bus.specs.Verdict.{numbers}
 use Rattle.diag_bus.specs.declared.clock.Clock.{Clock}
 use Rattle.diag_bus.specs.declared.clock.Start.{Start}
-use Rattle.diag_exchange.specs.declared.happening.Over.{Over}
+use Rattle.diag_exchange.specs.Over.{Over}
 use Rattle.diag_exchange.specs.declared.happening.CaptureLine.{CaptureLine}
 use Rattle.diag_expect.specs.Expecting.{entered_of}
 use Rattle.diag_expect.specs.declared.entered.Entered.{Entered}

@@ -11,8 +11,7 @@ use Rattle.diag_exchange.specs.Asking.{says_pending}
 use Rattle.diag_exchange.specs.Meaning.{IsAnswer, Means, SameBytes, SameList}
 use Rattle.diag_exchange.specs.declared.happening.Expected.{Expected}
 use Rattle.diag_exchange.specs.declared.happening.Heard.{Heard}
-use Rattle.diag_exchange.specs.declared.happening.Over.{Over}
-use Rattle.diag_exchange.specs.declared.happening.Over.TheVariants.{Exchange, Unasked}
+use Rattle.diag_exchange.specs.Over.{Over, Exchange, Unasked}
 use Rattle.diag_exchange.proofs.Lists.{and_true, not_true}
 use Rattle.diag_exchange.proofs.Sorted.{all_often, least_itself, one_if, times_more}
 

@@ -9,8 +9,7 @@ use Rattle.std.specs.Prelude.{cond, if◌then◌else◌, not, ◌&&◌}
 use Rattle.diag_exchange.specs.declared.happening.Happening.{Happening}
 use Rattle.diag_exchange.specs.declared.happening.Happening.TheVariants.{Asked, Began, Came, Lost}
 use Rattle.diag_exchange.specs.declared.happening.Heard.{Heard}
-use Rattle.diag_exchange.specs.declared.happening.Over.{Over}
-use Rattle.diag_exchange.specs.declared.happening.Over.TheVariants.{Unasked}
+use Rattle.diag_exchange.specs.Over.{Over, Unasked}
 use Rattle.diag_exchange.specs.declared.happening.AskedRequest.{AskedRequest}
 use Rattle.diag_exchange.specs.declared.happening.Start.{Start}
 use Rattle.diag_exchange.specs.Asking.{Course, and_behind, asked, change_last, coming, completes, courses, finish, happens, hearing, hears_it, hears_no_more, is_candidate, is_loud, is_loud_candidate, with_answer}

@@ -5,8 +5,7 @@ use Rattle.std.specs.Option.{is_none}
 use Rattle.diag_exchange.specs.Asking.{says_pending}
 use Rattle.diag_exchange.specs.declared.happening.Expected.{Expected}
 use Rattle.diag_exchange.specs.declared.happening.Heard.{Heard}
-use Rattle.diag_exchange.specs.declared.happening.Over.{Over}
-use Rattle.diag_exchange.specs.declared.happening.Over.TheVariants.{Exchange, Unasked}
+use Rattle.diag_exchange.specs.Over.{Over, Exchange, Unasked}
 
 -- ---- bytes that vary
 

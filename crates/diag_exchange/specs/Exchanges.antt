@@ -4,8 +4,7 @@ use Rattle.std.specs.List.{filter, list_any}
 use Rattle.diag_exchange.specs.Asking.{Behind, Course, answer, coming, completes, courses, hears_it, is_pending, replaced_by}
 use Rattle.diag_exchange.specs.declared.happening.Happening.{Happening}
 use Rattle.diag_exchange.specs.declared.happening.Heard.{Heard}
-use Rattle.diag_exchange.specs.declared.happening.Over.{Over}
-use Rattle.diag_exchange.specs.declared.happening.Over.TheVariants.{Exchange, Unasked}
+use Rattle.diag_exchange.specs.Over.{Over, Exchange, Unasked}
 use Rattle.diag_exchange.specs.declared.happening.AskedRequest.{AskedRequest}
 
 -- a request behind it closes an exchange that was answered by then, and one that it replaces

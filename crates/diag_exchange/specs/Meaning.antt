@@ -5,8 +5,7 @@ use Rattle.diag_exchange.specs.Agreeing.{agrees, lists_records, marks, records}
 use Rattle.diag_exchange.specs.Asking.{says_pending}
 use Rattle.diag_exchange.specs.declared.happening.Expected.{Expected}
 use Rattle.diag_exchange.specs.declared.happening.Heard.{Heard}
-use Rattle.diag_exchange.specs.declared.happening.Over.{Over}
-use Rattle.diag_exchange.specs.declared.happening.Over.TheVariants.{Exchange, Unasked}
+use Rattle.diag_exchange.specs.Over.{Over, Exchange, Unasked}
 
 -- each byte that doesn't vary is the reply's, and there are as many
 pub record SameBytes (marks sent reply : List ℕ) : Type 0 where

@@ -6,8 +6,7 @@ use Rattle.diag_exchange.specs.Asking.{Course, answer, change_last, coming, cour
 use Rattle.diag_exchange.specs.Exchanges.{is_open, pendings}
 use Rattle.diag_exchange.specs.declared.happening.Happening.{Happening}
 use Rattle.diag_exchange.specs.declared.happening.Heard.{Heard}
-use Rattle.diag_exchange.specs.declared.happening.Over.{Over}
-use Rattle.diag_exchange.specs.declared.happening.Over.TheVariants.{Exchange}
+use Rattle.diag_exchange.specs.Over.{Over, Exchange}
 use Rattle.diag_exchange.specs.declared.happening.AskedRequest.{AskedRequest}
 use Rattle.diag_exchange.specs.declared.happening.Start.{Start}
 use Rattle.diag_exchange.specs.declared.open.Open.{Open}

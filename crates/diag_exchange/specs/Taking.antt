@@ -8,8 +8,7 @@ use Rattle.diag_exchange.specs.Exchanges.{exchange, left_open, over, over_at_end
 use Rattle.diag_exchange.specs.Streaming.{StandsFor}
 use Rattle.diag_exchange.specs.declared.exchanges.Exchanges.{Exchanges}
 use Rattle.diag_exchange.specs.declared.happening.Happening.{Happening}
-use Rattle.diag_exchange.specs.declared.happening.Over.{Over}
-use Rattle.diag_exchange.specs.declared.happening.Over.TheVariants.{Exchange, Unasked}
+use Rattle.diag_exchange.specs.Over.{Over, Exchange, Unasked}
 use Rattle.diag_exchange.specs.declared.open.Open.{Open}
 
 -- what a tester's exchanges stand for

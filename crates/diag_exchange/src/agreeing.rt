@@ -3,7 +3,8 @@
 ghost use Rattle.std.specs.Prelude.{◌≡◌, ◌<◌, length, option_copied, slice_index, IfOk};
 ghost use Rattle.diag_exchange.specs.Agreeing.{agrees, answers_as, is_compared, marks, same_but, same_byte, same_reply, waited};
 
-use crate::happening::{Expected, Heard, Over, says_pending};
+use crate::happening::{Expected, Heard, says_pending};
+use crate::over::{Over, OverKind};
 use crate::records::same_in_any_order;
 use diag_pdu::Message;
 use std::alloc::{AllocError, Global};
@@ -89,8 +90,8 @@ impl Over {
     pub fn agrees(&self, alloc: Global) -> Result<bool, AllocError>
         ensures { IfOk result (λ same. same ≡ agrees self.now) }
     {
-        match self {
-            Over::Exchange {
+        match self.kind() {
+            OverKind::Exchange {
                 request,
                 answer,
                 ..
@@ -98,9 +99,9 @@ impl Over {
                 if request.expected.ignored {
                     return Ok(true);
                 }
-                request.expected.is_answer(alloc, answer.as_ref())
+                request.expected.is_answer(alloc, answer)
             }
-            Over::Unasked(_) => Ok(false),
+            OverKind::Unasked(_) => Ok(false),
         }
     }
 
@@ -108,13 +109,13 @@ impl Over {
     pub fn is_compared(&self) -> bool
         ensures { result ≡ is_compared self.now }
     {
-        match self {
-            Over::Exchange {
+        match self.kind() {
+            OverKind::Exchange {
                 request,
                 pendings,
                 answer,
-            } => !request.expected.ignored && (answer.is_some() || *pendings > 0),
-            Over::Unasked(_) => true,
+            } => !request.expected.ignored && (answer.is_some() || pendings > 0),
+            OverKind::Unasked(_) => true,
         }
     }
 
@@ -122,13 +123,13 @@ impl Over {
     pub fn waited(&self) -> Option<u64>
         ensures { result ≡ waited self.now }
     {
-        match self {
-            Over::Exchange {
+        match self.kind() {
+            OverKind::Exchange {
                 request,
                 answer: Some(sent),
                 ..
             } => Some(sent.start.at.moment.saturating_sub(request.at.moment)),
-            Over::Exchange { answer: None, .. } | Over::Unasked(_) => None,
+            OverKind::Exchange { answer: None, .. } | OverKind::Unasked(_) => None,
         }
     }
 }

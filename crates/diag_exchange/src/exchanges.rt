@@ -2,12 +2,14 @@
 
 ghost use Rattle.std.specs.Prelude.{◌≡◌, ◌≤◌, ◌+◌, ◌++◌, ◌∷◌, [], true, false, drop, slice_get, IfSome, IfNone, IfOk, IsSome, if◌then◌else◌, map, Some, None, length, vec_len, vec_capacity, OnOk, OnErr};
 ghost use Rattle.std.specs.List.{filter, list_any};
+ghost use Rattle.diag_exchange.specs.Over.{Unasked};
 ghost use Rattle.diag_exchange.specs.Taking.{Ended, IsUnchanged, Stands, Took, TookSilently};
 ghost use Rattle.diag_exchange.specs.Streaming.{asked_again, finish, goes_on, hear, hears_it, is_done, may_hear, told, IsLast};
 ghost use Rattle.diag_exchange.specs.declared.happening.Happening.TheVariants.{Asked, Began, Came, Lost};
 
-use crate::happening::{AskedRequest, Heard, Over, Start};
-use crate::open::Open;
+use crate::happening::{AskedRequest, Heard, Start};
+use crate::open_box::OpenBox;
+use crate::over::Over;
 use diag_pdu::Message;
 use std::alloc::{AllocError, Global};
 
@@ -15,13 +17,13 @@ use std::alloc::{AllocError, Global};
 #[derive(Drop)]
 pub struct Exchanges {
     /// The exchanges, in the order of their requests.
-    pub live: Vec<Open>,
+    pub live: Vec<OpenBox>,
     /// The first frame of the message that is coming in.
     pub coming: Option<Start>,
 }
 
 /// Hands out the exchanges that are over, where the newest happening is a request or not.
-fn take_out(live: &mut Vec<Open>, asked: bool, over: &mut Vec<Over>)
+fn take_out(live: &mut Vec<OpenBox>, asked: bool, over: &mut Vec<Over>)
     requires room { vec_len over.old + vec_len live.old ≤ vec_capacity over.old }
     ensures live { live.new.items ≡ filter (goes_on asked) live.old.items }
     ensures over { over.new.items ≡ over.old.items
@@ -33,9 +35,9 @@ fn take_out(live: &mut Vec<Open>, asked: bool, over: &mut Vec<Over>)
 {
     let mut at = 0;
     for _turn in 0..live.len() {
-        if live[at].is_done(asked) {
+        if live[at].get().is_done(asked) {
             let done = live.remove(at);
-            over.push_reserved(done.tell());
+            over.push_reserved(Over::exchange(done));
         } else {
             at += 1;
         }
@@ -43,7 +45,7 @@ fn take_out(live: &mut Vec<Open>, asked: bool, over: &mut Vec<Over>)
 }
 
 /// A request is complete behind each of them.
-fn ask_again(live: &mut Vec<Open>, request: &AskedRequest)
+fn ask_again(live: &mut Vec<OpenBox>, request: &AskedRequest)
     ensures items { live.new.items ≡ map (asked_again request.now) live.old.items }
     ensures len { vec_len live.new ≡ vec_len live.old }
     ensures room { vec_capacity live.new ≡ vec_capacity live.old }
@@ -54,13 +56,13 @@ fn ask_again(live: &mut Vec<Open>, request: &AskedRequest)
 }
 
 /// The index of the latest candidate for a message that begins so, or of the latest loud one.
-fn latest(live: &[Open], loud: bool, start: &Start) -> Option<usize>
+fn latest(live: &[OpenBox], loud: bool, start: &Start) -> Option<usize>
     ensures { IsLast (may_hear loud start.now) live.now result }
 {
     let mut index = live.len();
     while index > 0 {
         index -= 1;
-        if live[index].may_hear(loud, start) {
+        if live[index].get().may_hear(loud, start) {
             return Some(index);
         }
     }
@@ -68,13 +70,13 @@ fn latest(live: &[Open], loud: bool, start: &Start) -> Option<usize>
 }
 
 /// The index of the exchange that hears the message that is coming in.
-fn hearer(live: &[Open]) -> Option<usize>
+fn hearer(live: &[OpenBox]) -> Option<usize>
     ensures { IsLast hears_it live.now result }
 {
     let mut index = live.len();
     while index > 0 {
         index -= 1;
-        if live[index].hears {
+        if live[index].get().hears {
             return Some(index);
         }
     }
@@ -82,7 +84,7 @@ fn hearer(live: &[Open]) -> Option<usize>
 }
 
 /// A message begins: the latest loud candidate hears it, or where there is none the latest silent one.
-fn hear(live: &mut Vec<Open>, start: &Start)
+fn hear(live: &mut Vec<OpenBox>, start: &Start)
     ensures items { live.new.items ≡ hear start.now live.old.items }
     ensures len { vec_len live.new ≡ vec_len live.old }
 {
@@ -96,7 +98,7 @@ fn hear(live: &mut Vec<Open>, start: &Start)
 }
 
 /// The message that was coming in never will be complete.
-fn hear_no_more(live: &mut Vec<Open>)
+fn hear_no_more(live: &mut Vec<OpenBox>)
     ensures items { live.new.items ≡ finish None live.old.items }
     ensures len { vec_len live.new ≡ vec_len live.old }
 {
@@ -105,12 +107,12 @@ fn hear_no_more(live: &mut Vec<Open>)
     }
 }
 
-/// The message that was coming in is complete: the exchange that heard it has it; where there is none, it is given back.
+/// The message that was coming in is complete: the exchange that heard it has it; where there is none, it is over itself.
 #[inline(always)]
-fn answer(live: &mut Vec<Open>, heard: Heard) -> Result<Option<Heard>, AllocError>
+fn answer(alloc: Global, live: &mut Vec<OpenBox>, heard: Heard) -> Result<Option<Over>, AllocError>
     ensures ok { OnOk result (live.new.items ≡ finish (Some heard) live.old.items) }
     ensures unasked { IfOk result (λ unasked. unasked
-        ≡ if list_any hears_it live.old.items then None else Some heard) }
+        ≡ if list_any hears_it live.old.items then None else Some (Unasked heard)) }
     ensures err { OnErr result (live.new.items ≡ live.old.items) }
     ensures len { vec_len live.new ≡ vec_len live.old }
 {
@@ -119,7 +121,7 @@ fn answer(live: &mut Vec<Open>, heard: Heard) -> Result<Option<Heard>, AllocErro
             live[index].take(heard)?;
             Ok(None)
         }
-        None => Ok(Some(heard)),
+        None => Ok(Some(Over::unasked(alloc, heard)?)),
     }
 }
 
@@ -146,11 +148,12 @@ impl Exchanges {
         ensures err { OnErr result (IsUnchanged self.old self.new) }
         ensures out { OnErr result (over.new.items ≡ over.old.items) }
     {
+        let open = OpenBox::new(*over.allocator(), request)?;
         over.reserve(self.live.len())?;
         self.live.reserve(1)?;
-        ask_again(&mut self.live, &request);
+        ask_again(&mut self.live, &open.get().request);
         take_out(&mut self.live, true, over);
-        self.live.push_reserved(Open::new(request));
+        self.live.push_reserved(open);
         Ok(())
     }
 
@@ -183,10 +186,11 @@ impl Exchanges {
         };
         let most = self.live.len().checked_add(1).ok_or(AllocError)?;
         over.reserve(most)?;
-        let unasked = answer(&mut self.live, Heard { start, bytes })?;
+        let alloc = *over.allocator();
+        let unasked = answer(alloc, &mut self.live, Heard { start, bytes })?;
         take_out(&mut self.live, false, over);
-        if let Some(heard) = unasked {
-            over.push_reserved(Over::Unasked(heard));
+        if let Some(unasked) = unasked {
+            over.push_reserved(unasked);
         }
         self.coming = None;
         Ok(())
@@ -217,22 +221,7 @@ impl Exchanges {
         ensures { OnOk result (Ended self.now over.old.items over.new.items) }
     {
         for open in &self.live {
-            over.push(open.tell_copy(alloc)?)?;
-        }
-        Ok(())
-    }
-
-    /// All has happened: the exchanges that aren't over are put behind `over`.
-    ///
-    /// # Errors
-    /// `AllocError` where memory is refused, and then nothing was put there.
-    pub fn end(self, over: &mut Vec<Over>) -> Result<(), AllocError>
-        ensures ok { OnOk result (Ended self over.old.items over.new.items) }
-        ensures out { OnErr result (over.new.items ≡ over.old.items) }
-    {
-        over.reserve(self.live.len())?;
-        for open in self.live {
-            over.push_reserved(open.tell());
+            over.push(Over::exchange(open.try_copy(alloc)?))?;
         }
         Ok(())
     }

@@ -75,22 +75,6 @@ pub enum Happening {
     Lost,
 }
 
-/// What is over.
-#[derive(Drop)]
-pub enum Over {
-    /// A request, and what the unit sent to it.
-    Exchange {
-        /// The request.
-        request: AskedRequest,
-        /// How many times response pending came.
-        pendings: u64,
-        /// The message that isn't response pending, where there is one.
-        answer: Option<Heard>,
-    },
-    /// A message that no request asked.
-    Unasked(Heard),
-}
-
 /// Whether bytes say response pending (ISO 14229-1:2013, A.1).
 pub(crate) fn says_pending(bytes: &[u8]) -> bool
     ensures { result ≡ says_pending bytes.now }

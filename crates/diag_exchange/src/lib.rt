@@ -6,9 +6,13 @@ mod exchanges;
 mod happening;
 mod laws;
 mod open;
+mod open_box;
+mod over;
 mod records;
 
 pub use exchanges::Exchanges;
-pub use happening::{AskedRequest, CaptureLine, Expected, Happening, Heard, Over, Start};
+pub use happening::{AskedRequest, CaptureLine, Expected, Happening, Heard, Start};
 pub use laws::{agrees_law, few_law, once_law, over_law};
 pub use open::Open;
+pub use open_box::OpenBox;
+pub use over::{Over, OverKind};

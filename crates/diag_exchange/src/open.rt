@@ -2,9 +2,9 @@
 
 ghost use Rattle.std.specs.Prelude.{◌≡◌, ◌+◌, ◌∷◌, [], option_copied, IfOk, OnOk, OnErr};
 ghost use Rattle.diag_exchange.specs.Asking.{begins_as, begins_as_reply, first_byte, fits, is_positive};
-ghost use Rattle.diag_exchange.specs.Streaming.{asked_again, hearing, hears_no_more, is_candidate, is_done, may_hear, told, opened, with_message};
+ghost use Rattle.diag_exchange.specs.Streaming.{asked_again, hearing, hears_no_more, is_candidate, is_done, may_hear, opened, with_message};
 
-use crate::happening::{AskedRequest, Heard, Over, Start};
+use crate::happening::{AskedRequest, Heard, Start};
 use diag_pdu::Message;
 use std::alloc::{AllocError, Global};
 
@@ -85,33 +85,23 @@ impl Open {
         (self.replaced || (asked && self.answer.is_some())) && !self.hears
     }
 
-    /// What is told of it.
-    #[inline(always)]
-    pub fn tell(self) -> Over
-        ensures { result ≡ told self }
-    {
-        Over::Exchange {
-            request: self.request,
-            pendings: self.pendings,
-            answer: self.answer,
-        }
-    }
-
-    /// What is told of it, in memory of its own.
+    /// The same again.
     ///
     /// # Errors
     /// `AllocError` where memory is refused.
-    pub fn tell_copy(&self, alloc: Global) -> Result<Over, AllocError>
-        ensures { IfOk result (λ over. over ≡ told self.now) }
+    pub fn try_copy(&self, alloc: Global) -> Result<Open, AllocError>
+        ensures { IfOk result (λ copy. copy ≡ self.now) }
     {
         let answer = match &self.answer {
             Some(heard) => Some(heard.try_copy(alloc)?),
             None => None,
         };
-        Ok(Over::Exchange {
+        Ok(Open {
             request: self.request.try_copy(alloc)?,
             pendings: self.pendings,
             answer,
+            hears: self.hears,
+            replaced: self.replaced,
         })
     }
 

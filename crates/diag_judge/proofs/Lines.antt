@@ -13,7 +13,7 @@ use Rattle.diag_exchange.specs.Agreeing.{is_compared}
 use Rattle.diag_exchange.specs.Exchanges.{over, over_after, over_with}
 use Rattle.diag_exchange.specs.declared.happening.Happening.{Happening}
 use Rattle.diag_exchange.specs.declared.happening.Happening.TheVariants.{Asked}
-use Rattle.diag_exchange.specs.declared.happening.Over.{Over}
+use Rattle.diag_exchange.specs.Over.{Over}
 use Rattle.diag_exchange.specs.declared.happening.CaptureLine.{CaptureLine}
 use Rattle.diag_exchange.specs.declared.happening.AskedRequest.{AskedRequest}
 use Rattle.diag_expect.specs.Expecting.{asked_at}

@@ -2,7 +2,7 @@
 
 ghost use Rattle.std.specs.Prelude.{◌≡◌, ◌≤◌, ◌+◌, true, None, [], ◌∷◌, ◌++◌, List, length, map, option_copied, OnOk, IfOk};
 ghost use Rattle.diag_exchange.specs.Agreeing.{agrees};
-ghost use Rattle.diag_exchange.specs.declared.happening.Over.{Over as AnOver};
+ghost use Rattle.diag_exchange.specs.Over.{Over as AnOver};
 ghost use Rattle.diag_judge.specs.Judging.{AreCounts, EndsCounted, EndsJudged, HearsLine, HearsRequests, Judges, JudgesLine, judged_for};
 
 use diag_can::KeptBytes;

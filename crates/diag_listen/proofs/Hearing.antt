@@ -18,7 +18,7 @@ use Rattle.diag_exchange.specs.Taking.{Stands, Took, TookSilently}
 use Rattle.diag_exchange.specs.declared.exchanges.Exchanges.{Exchanges}
 use Rattle.diag_exchange.specs.declared.happening.Happening.{Happening}
 use Rattle.diag_exchange.specs.declared.happening.Happening.TheVariants.{Came}
-use Rattle.diag_exchange.specs.declared.happening.Over.{Over}
+use Rattle.diag_exchange.specs.Over.{Over}
 use Rattle.diag_exchange.specs.declared.happening.CaptureLine.{CaptureLine}
 use Rattle.diag_listen.specs.Listening.{HasMoved, Hears, Listens, Moves, TookEach, after_ticks, all_happen, began, breaks, came, came_by, frame_happens, is_unfinished, kind_happens, lost_if, partial_of, receives, ticks_happen, unit_happens}
 use Rattle.diag_listen.specs.declared.listener.Listener.{Listener}

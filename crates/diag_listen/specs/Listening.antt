@@ -16,7 +16,7 @@ use Rattle.diag_exchange.specs.Taking.{Stands}
 use Rattle.diag_exchange.specs.declared.exchanges.Exchanges.{Exchanges}
 use Rattle.diag_exchange.specs.declared.happening.Happening.{Happening}
 use Rattle.diag_exchange.specs.declared.happening.Happening.TheVariants.{Asked, Began, Came, Lost}
-use Rattle.diag_exchange.specs.declared.happening.Over.{Over}
+use Rattle.diag_exchange.specs.Over.{Over}
 use Rattle.diag_exchange.specs.declared.happening.CaptureLine.{CaptureLine}
 use Rattle.diag_exchange.specs.declared.happening.AskedRequest.{AskedRequest}
 use Rattle.diag_listen.specs.declared.listener.Listener.{Listener}

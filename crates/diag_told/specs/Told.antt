@@ -4,8 +4,7 @@ use Rattle.std.specs.Fmt.{decimal}
 use Rattle.hex.specs.Hex.{encode_upper}
 use Rattle.diag_can.specs.Reply.{zero_filled}
 use Rattle.diag_exchange.specs.Agreeing.{marks, waited}
-use Rattle.diag_exchange.specs.declared.happening.Over.{Over}
-use Rattle.diag_exchange.specs.declared.happening.Over.TheVariants.{Exchange, Unasked}
+use Rattle.diag_exchange.specs.Over.{Over, Exchange, Unasked}
 use Rattle.diag_exchange.specs.declared.happening.CaptureLine.{CaptureLine}
 
 abbrev pub dash : List ℕ

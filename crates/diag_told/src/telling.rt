@@ -7,7 +7,7 @@ ghost use Rattle.diag_exchange.specs.Agreeing.{marks, waited};
 ghost use Rattle.diag_told.specs.Told.{byte_text, bytes_text, capture_line_told, expected_text, kind_text, message_text, pendings_told, reply_text, request_text, sent_text, stamp_text, time_text, told_text};
 
 use diag_can::{add_bytes, add_hex, decimal_pair, write_hex};
-use diag_exchange::{CaptureLine, Expected, Over};
+use diag_exchange::{CaptureLine, Expected, Over, OverKind};
 use diag_pdu::Message;
 use itoa::Buffer;
 use std::alloc::AllocError;
@@ -121,27 +121,27 @@ fn add_time(text: &mut Vec<u8>, waited: Option<u64>)
 pub fn capture_line(over: &Over) -> CaptureLine
     ensures { result ≡ capture_line_told over.now }
 {
-    match over {
-        Over::Exchange { request, .. } => request.at,
-        Over::Unasked(heard) => heard.start.at,
+    match over.kind() {
+        OverKind::Exchange { request, .. } => request.at,
+        OverKind::Unasked(heard) => heard.start.at,
     }
 }
 
 fn kind(over: &Over) -> u8
     ensures { result ∷ [] ≡ kind_text over.now }
 {
-    match over {
-        Over::Exchange { request, .. } => { if request.functional { b'F' } else { b'P' } }
-        Over::Unasked(_) => b'U',
+    match over.kind() {
+        OverKind::Exchange { request, .. } => { if request.functional { b'F' } else { b'P' } }
+        OverKind::Unasked(_) => b'U',
     }
 }
 
 fn pendings(over: &Over) -> u64
     ensures { result ≡ pendings_told over.now }
 {
-    match over {
-        Over::Exchange { pendings, .. } => *pendings,
-        Over::Unasked(_) => 0,
+    match over.kind() {
+        OverKind::Exchange { pendings, .. } => pendings,
+        OverKind::Unasked(_) => 0,
     }
 }
 
@@ -149,9 +149,9 @@ fn pendings(over: &Over) -> u64
 fn request(over: &Over) -> Option<&Message>
     ensures { message_text (option_copied result) ≡ request_text over.now }
 {
-    match over {
-        Over::Exchange { request, .. } => Some(&request.bytes),
-        Over::Unasked(_) => None,
+    match over.kind() {
+        OverKind::Exchange { request, .. } => Some(&request.bytes),
+        OverKind::Unasked(_) => None,
     }
 }
 
@@ -159,13 +159,13 @@ fn request(over: &Over) -> Option<&Message>
 fn sent(over: &Over) -> Option<&Message>
     ensures { message_text (option_copied result) ≡ sent_text over.now }
 {
-    match over {
-        Over::Exchange {
+    match over.kind() {
+        OverKind::Exchange {
             answer: Some(heard),
             ..
         } => Some(&heard.bytes),
-        Over::Exchange { answer: None, .. } => None,
-        Over::Unasked(heard) => Some(&heard.bytes),
+        OverKind::Exchange { answer: None, .. } => None,
+        OverKind::Unasked(heard) => Some(&heard.bytes),
     }
 }
 
@@ -197,8 +197,8 @@ fn add_message(text: &mut Vec<u8>, message: Option<&Message>)
 fn add_expected(text: &mut Vec<u8>, over: &Over, same: bool) -> Result<(), AllocError>
     ensures { OnOk result (text.new.items ≡ text.old.items ++ expected_text same over.now) }
 {
-    match over {
-        Over::Exchange { request, .. } => {
+    match over.kind() {
+        OverKind::Exchange { request, .. } => {
             if request.expected.ignored {
                 return add_word(text, b"~");
             }
@@ -207,7 +207,7 @@ fn add_expected(text: &mut Vec<u8>, over: &Over, same: bool) -> Result<(), Alloc
             }
             add_reply(text, &request.expected)
         }
-        Over::Unasked(_) => add_word(text, b"-"),
+        OverKind::Unasked(_) => add_word(text, b"-"),
     }
 }
 

@@ -14,7 +14,7 @@ use Rattle.diag_pdu.specs.Cut.{counted_from}
 use Rattle.diag_compare.specs.Compare.{over_by}
 use Rattle.diag_compare.specs.Expects.{expects}
 use Rattle.diag_comparing.specs.Keeping.{bytes_with, judged_pair}
-use Rattle.diag_exchange.specs.declared.happening.Over.{Over}
+use Rattle.diag_exchange.specs.Over.{Over}
 use Rattle.diag_comparing.specs.Idle.{IsIdle, IsOutside}
 use Rattle.diag_comparing.proofs.Idle.{idle_set, left_one, over_first, over_last, read_set, taken_first, taken_last}
 use Rattle.diag_comparing.proofs.Takings.{taken_one, tester_is, judged_is, judged_more}

@@ -13,6 +13,7 @@ returns-then-may_hear c =
     let own = c.index-live-index.result in
     let within : i < length live = omega (arith, c.loop-index.invariant.0, c.loop-index-test.true) in
     let next : suc i ≡ c.loop-index.index = omega (arith, c.loop-index-test.true) in (
-      is_found p live i own (slice_get_read live (length live) i own refl within c.index-live-index.is) (sym c.may_hear.ensures ∙ c.if-may_hear.true),
+      is_found p live i own (slice_get_read live (length live) i own refl within c.index-live-index.is) (ap p (sym c.get.ensures)
+          ∙ (sym c.may_hear.ensures ∙ c.if-may_hear.true)),
       ap (λ j. list_any p (drop j live)) next ∙ c.loop-index.invariant.1,
     )

@@ -2,7 +2,7 @@ use Rattle.std.proofs.lemmas.Option.{same_Some, slice_get_read}
 use Rattle.std.proofs.lemmas.List.{map-append}
 use Rattle.std.specs.Prelude.{slice_get}
 use Rattle.diag_exchange.specs.declared.open.Open.{Open}
-use Rattle.diag_exchange.specs.declared.happening.Over.{Over}
+use Rattle.diag_exchange.specs.Over.{Over}
 use Rattle.std.proofs.Common.{true, false, ap₂, subst, Vec, Global, ◌≡◌, ◌<◌, ◌≤◌, ◌+◌, ◌++◌, ◌∷◌, [], List, Some, map, length, vec_len, vec_capacity, ap, sym, refl, ◌∙◌, append_assoc, arith}
 use Rattle.std.specs.List.{remove}
 use Rattle.diag_exchange.specs.Streaming.{told, is_done}
@@ -45,14 +45,14 @@ loop-turn-preserved c =
     let there = left_at p old now i at own inv.live inv.place here in
     elim c.if-is_done.branch [
       | then-is_done w ↦ (
-          let test : p own ≡ true = sym c.is_done.ensures ∙ w.if-is_done.true in
+          let test : p own ≡ true = ap p (sym c.get.ensures) ∙ (sym c.is_done.ensures ∙ w.if-is_done.true) in
           let same : w.remove-done.result ≡ own = same_Some _ _
           (sym (slice_get_read now (length now) at w.remove-done.result refl less w.remove-done.ensures.value) ∙ here) in
           record {
             live = ap (λ v. v.items) w.live-is ∙ (w.remove-done.ensures.items ∙ (ap₂ remove inv.live inv.place ∙ left_gone_more p old i own there test));
             place = w.at-is ∙ (inv.place ∙ place_gone_more p old i own there test);
             over = ap (λ v. v.items) w.over-is ∙ (w.push_reserved.ensures.items
-                ∙ (ap₂ (λ (xs : List Over) (x : Over). xs ++ x ∷ []) inv.over (w.tell.ensures ∙ ap told same)
+                ∙ (ap₂ (λ (xs : List Over) (x : Over). xs ++ x ∷ []) inv.over (w.exchange.ensures ∙ ap told same)
                 ∙ (append_assoc c.args.over.now.items (map told (gone_of p i old)) (told own ∷ [])
                 ∙ ap (λ xs. c.args.over.now.items ++ xs) (sym (map-append told (gone_of p i old) (own ∷ []))
                 ∙ ap (map told) (sym (gone_gone_more p old i own there test))))));
@@ -65,7 +65,7 @@ loop-turn-preserved c =
             room = ap vec_capacity w.live-is ∙ (w.remove-done.ensures.capacity ∙ inv.room);
           })
       | else-is_done w ↦ (
-          let test : p own ≡ false = sym c.is_done.ensures ∙ w.if-is_done.false in
+          let test : p own ≡ false = ap p (sym c.get.ensures) ∙ (sym c.is_done.ensures ∙ w.if-is_done.false) in
           record {
             live = ap (λ v. v.items) w.live-is ∙ (inv.live ∙ left_stays_more p old i own there test);
             place = w.at-is ∙ (ap (λ n. n + 1) inv.place ∙ place_stays_more p old i own there test);

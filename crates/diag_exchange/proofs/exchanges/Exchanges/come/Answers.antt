@@ -7,8 +7,7 @@ use Rattle.diag_exchange.specs.Asking.{completes}
 use Rattle.diag_exchange.specs.Streaming.{finish, goes_on, hears_it, is_done, told}
 use Rattle.diag_exchange.specs.declared.happening.Happening.TheVariants.{Came}
 use Rattle.diag_exchange.specs.declared.happening.Heard.{Heard}
-use Rattle.diag_exchange.specs.declared.happening.Over.{Over}
-use Rattle.diag_exchange.specs.declared.happening.Over.TheVariants.{Unasked}
+use Rattle.diag_exchange.specs.Over.{Over, Unasked}
 use Rattle.diag_exchange.specs.declared.happening.Start.{Start}
 use Rattle.diag_exchange.proofs.Taking.{took_as, unasked_of}
 use Rattle.diag_exchange.proofs.exchanges.Exchanges.come.Goals as goal
@@ -17,13 +16,13 @@ use Rattle.diag_exchange.proofs.exchanges.Exchanges.come.Goals.{in-Some-unasked,
 abbrev unasked_if : Bool → Heard → List Over
 unasked_if b m = if b then [] else Unasked m ∷ []
 
-not_asked : (t : Bool) (m n : Heard) → Some n ≡ (if t then None else Some m) → unasked_if t m ≡ Unasked n ∷ []
+not_asked : (t : Bool) (m : Heard) (n : Over) → Some n ≡ (if t then None else Some (Unasked m)) → unasked_if t m ≡ n ∷ []
 not_asked true m n e = cc
-not_asked false m n e = ap (λ x. Unasked x ∷ []) (sym (same_Some _ _ e))
+not_asked false m n e = ap (λ x. x ∷ []) (sym (same_Some _ _ e))
 
-is_asked_for : (t : Bool) (m : Heard) (o : Option Heard) → ((n : Heard) → o ≡ Some n → ⊥) → o ≡ (if t then None else Some m) → unasked_if t m ≡ []
+is_asked_for : (t : Bool) (m : Heard) (o : Option Over) → ((n : Over) → o ≡ Some n → ⊥) → o ≡ (if t then None else Some (Unasked m)) → unasked_if t m ≡ []
 is_asked_for true m o f e = refl
-is_asked_for false m o f e = absurd (f m e)
+is_asked_for false m o f e = absurd (f (Unasked m) e)
 
 pub returns-clause-ok : goal.returns-clause-ok
 returns-clause-ok c = λ hs s.
@@ -39,12 +38,12 @@ returns-clause-ok c = λ hs s.
     let handed : c.take_out.new.over.items ≡ c.args.over.now.items ++ gone =
     c.take_out.ensures.over ∙ ap₂ (λ (xs ys : List Over). xs ++ ys) c.reserve.ensures.items (ap (λ xs. map told (filter (is_done false) xs)) moved) in
     let asked : Bool = list_any hears_it es in
-    let has : c.in_ok-unasked.unasked ≡ (if asked then None else Some m) = c.in_ok-unasked.ensures.unasked in
+    let has : c.in_ok-unasked.unasked ≡ (if asked then None else Some (Unasked m)) = c.in_ok-unasked.ensures.unasked in
     let last : c.match-unasked.over.items ≡ c.take_out.new.over.items ++ unasked_if asked m = elim c.match-unasked.branch [
       | in-Some-unasked w ↦ (
-          let given : Some w.in-Some-unasked.heard ≡ (if asked then None else Some m) = sym w.in-Some-unasked.is ∙ has in
+          let given : Some w.in-Some-unasked.unasked ≡ (if asked then None else Some (Unasked m)) = sym w.in-Some-unasked.is ∙ has in
           ap (λ (v : Vec Over Global). v.items) w.over-is ∙ (w.push_reserved.ensures.items
-          ∙ ap (λ (ys : List Over). c.take_out.new.over.items ++ ys) (sym (not_asked asked m w.in-Some-unasked.heard given))))
+          ∙ ap (λ (ys : List Over). c.take_out.new.over.items ++ ys) (sym (not_asked asked m w.in-Some-unasked.unasked given))))
       | in_default-unasked w ↦ (
           ap (λ (v : Vec Over Global). v.items) w.over-is ∙ (sym (append-nil c.take_out.new.over.items)
           ∙ ap (λ (ys : List Over). c.take_out.new.over.items ++ ys) (sym (is_asked_for asked m c.in_ok-unasked.unasked w.in_default-unasked.not-Some has))))

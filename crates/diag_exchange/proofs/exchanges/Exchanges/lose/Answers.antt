@@ -2,7 +2,7 @@ use Rattle.std.proofs.Common.{◌++◌, None, false, List, map, ap, ap₂, refl,
 use Rattle.std.specs.List.{filter}
 use Rattle.diag_exchange.specs.Streaming.{goes_on, is_done, told}
 use Rattle.diag_exchange.specs.declared.happening.Happening.TheVariants.{Lost}
-use Rattle.diag_exchange.specs.declared.happening.Over.{Over}
+use Rattle.diag_exchange.specs.Over.{Over}
 use Rattle.diag_exchange.proofs.Taking.{took_as}
 use Rattle.diag_exchange.proofs.exchanges.Exchanges.lose.Goals as goal
 

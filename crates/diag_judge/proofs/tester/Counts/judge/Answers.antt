@@ -1,7 +1,7 @@
 use Rattle.std.proofs.Common.{◌≡◌, ◌≤◌, ◌+◌, suc, List, [], ◌∷◌, ◌++◌, drop, length, map, take, ap, ap₂, subst, sym, ◌∙◌, append_assoc, arith, Bool}
 use Rattle.std.proofs.lemmas.List.{append-nil, map-append, reverse-reverse, take_all}
 use Rattle.std.specs.Prelude.{reverse}
-use Rattle.diag_exchange.specs.declared.happening.Over.{Over}
+use Rattle.diag_exchange.specs.Over.{Over}
 use Rattle.diag_judge.specs.Judging.{AreCounts, judged_for}
 use Rattle.diag_judge.specs.declared.tester.Judged.{Judged}
 use Rattle.diag_judge.proofs.Lines.{next_of}

@@ -1,6 +1,6 @@
 use Rattle.std.proofs.Common.{◌≡◌, ◌≤◌, ◌+◌, List, ◌++◌, drop, map, take, vec_capacity, vec_len}
 use Rattle.std.specs.Prelude.{reverse}
-use Rattle.diag_exchange.specs.declared.happening.Over.{Over}
+use Rattle.diag_exchange.specs.Over.{Over}
 use Rattle.diag_judge.specs.Judging.{AreCounts, judged_for}
 use Rattle.diag_judge.proofs.tester.Counts.judge.Given as goal
 

@@ -3,7 +3,7 @@ use Rattle.std.proofs.lemmas.Result.{on_ok_weaker}
 use Rattle.std.specs.Prelude.{option_copied, OnOk}
 use Rattle.diag_can.specs.Log.{waited}
 use Rattle.diag_can.specs.Event.{Physical}
-use Rattle.diag_exchange.specs.declared.happening.Over.{Over}
+use Rattle.diag_exchange.specs.Over.{Over}
 use Rattle.diag_listen.specs.Listening.{Hears}
 use Rattle.diag_judge.specs.Judging.{HearsLine}
 use Rattle.diag_judge.proofs.Lines.{line_heard, nothing_heard}

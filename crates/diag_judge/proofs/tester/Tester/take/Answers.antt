@@ -1,6 +1,6 @@
 use Rattle.std.proofs.Common.{◌≡◌, ◌++◌, List, [], map, append-nil, ap, subst, sym, refl, ◌∙◌}
 use Rattle.std.specs.Prelude.{option_copied}
-use Rattle.diag_exchange.specs.declared.happening.Over.{Over}
+use Rattle.diag_exchange.specs.Over.{Over}
 use Rattle.diag_listen.proofs.Hearing.{both_ok}
 use Rattle.diag_judge.specs.Judging.{AreCounts, judged_for}
 use Rattle.diag_judge.specs.declared.tester.Counts.{Counts}

@@ -1,0 +1,94 @@
+//! An exchange that isn't over, as it is kept.
+
+ghost use Rattle.std.specs.Prelude.{◌≡◌, IfOk, OnOk, OnErr};
+ghost use Rattle.diag_exchange.specs.Streaming.{asked_again, hearing, hears_no_more, opened, with_message};
+
+use crate::happening::{AskedRequest, Heard};
+use crate::open::Open;
+use std::alloc::{AllocError, Global};
+use std::marker::Model;
+
+/// An exchange on the heap, so that it moves by a word. Contracts see it as the exchange.
+#[derive(Drop)]
+pub struct OpenBox {
+    open: Box<Open>,
+}
+
+impl Model for OpenBox {
+    ghost use Rattle.diag_exchange.specs.declared.open.Open.{Open as AnOpen};
+
+    ghost Value = { AnOpen };
+
+    ghost view = { λ k. k.open.value };
+}
+
+impl OpenBox {
+    /// A request of which nothing was heard.
+    ///
+    /// # Errors
+    /// `AllocError` where memory is refused.
+    #[inline(always)]
+    pub fn new(alloc: Global, request: AskedRequest) -> Result<OpenBox, AllocError>
+        ensures { IfOk result (λ kept. kept ≡ opened request) }
+    {
+        match Box::new(alloc, Open::new(request)) {
+            Ok(open) => Ok(OpenBox { open }),
+            Err(_) => Err(AllocError),
+        }
+    }
+
+    /// The same again.
+    ///
+    /// # Errors
+    /// `AllocError` where memory is refused.
+    pub fn try_copy(&self, alloc: Global) -> Result<OpenBox, AllocError>
+        ensures { IfOk result (λ copy. copy ≡ self.now) }
+    {
+        match Box::new(alloc, self.open.try_copy(alloc)?) {
+            Ok(open) => Ok(OpenBox { open }),
+            Err(_) => Err(AllocError),
+        }
+    }
+
+    /// The exchange.
+    #[inline(always)]
+    pub fn get(&self) -> &Open
+        ensures { result.now ≡ self.now }
+    {
+        &self.open
+    }
+
+    /// As `Open::hear`.
+    pub fn hear(&mut self)
+        ensures { self.new ≡ hearing self.old }
+    {
+        self.open.hear();
+    }
+
+    /// As `Open::take`.
+    ///
+    /// # Errors
+    /// As there.
+    #[inline(always)]
+    pub fn take(&mut self, heard: Heard) -> Result<(), AllocError>
+        ensures ok { OnOk result (self.new ≡ with_message heard self.old) }
+        ensures err { OnErr result (self.new ≡ self.old) }
+    {
+        self.open.take(heard)
+    }
+
+    /// As `Open::hear_no_more`.
+    pub fn hear_no_more(&mut self)
+        ensures { self.new ≡ hears_no_more self.old }
+    {
+        self.open.hear_no_more();
+    }
+
+    /// As `Open::ask_again`.
+    #[inline(always)]
+    pub fn ask_again(&mut self, request: &AskedRequest)
+        ensures { self.new ≡ asked_again request.now self.old }
+    {
+        self.open.ask_again(request);
+    }
+}
