@@ -35,19 +35,63 @@ impl Error for MessageFault {}
 /// The most bytes that a message keeps in place: those of a frame.
 const IN_PLACE: usize = 8;
 
-/// The bytes of a message that stand in place. They begin where a word does, so that a message moves word by word.
+/// The bytes of a message that stand in place. They begin where a word does and have words alone, so that a message moves word by
+/// word.
 #[derive(Drop)]
 struct InPlace {
     at_a_word: [u64; 0],
-    bytes: FrameBytes,
+    places: [u8; IN_PLACE],
+    len: u64,
 }
 
 impl Model for InPlace {
-    ghost use Rattle.std.specs.Prelude.{ℕ, List};
+    ghost use Rattle.std.specs.Prelude.{ℕ, List, take, ◌≤◌};
 
     ghost Value = { List ℕ };
 
-    ghost view = { λ a. a.bytes };
+    ghost view = { λ a. take a.len a.places };
+
+    ghost invariant = { λ a. a.len ≤ 8 };
+}
+
+impl InPlace {
+    /// Bytes of a frame.
+    #[inline(always)]
+    fn of(bytes: FrameBytes) -> InPlace
+        ensures { result ≡ bytes }
+    {
+        InPlace {
+            at_a_word: [],
+            places: *bytes.places(),
+            len: bytes.len() as u64,
+        }
+    }
+
+    /// How many they are.
+    #[inline(always)]
+    fn len(&self) -> usize
+        ensures count { result ≡ length self.now }
+        ensures fits { result ≤ 8 }
+    {
+        self.len as usize
+    }
+
+    /// The bytes as those of a frame.
+    #[inline(always)]
+    fn frame(&self) -> FrameBytes
+        ensures { result ≡ self.now }
+    {
+        FrameBytes::full(self.places).part(0, self.len())
+    }
+
+    /// The bytes as a slice.
+    #[inline(always)]
+    fn as_slice(&self) -> &[u8]
+        ensures bytes { result.now ≡ self.now }
+        ensures fits { length result.now ≤ 8 }
+    {
+        &self.places[..self.len()]
+    }
 }
 
 /// The bytes of a message: where a frame could carry them in place, else in memory of their own.
@@ -55,17 +99,6 @@ impl Model for InPlace {
 enum Bytes {
     Short(InPlace),
     Long(Vec<u8>),
-}
-
-/// Bytes of a frame, in place.
-#[inline(always)]
-fn in_place(bytes: FrameBytes) -> InPlace
-    ensures { result ≡ bytes }
-{
-    InPlace {
-        at_a_word: [],
-        bytes,
-    }
 }
 
 const _: () = prove!(size_of::<Message>() <= 32);
@@ -132,7 +165,7 @@ impl Message {
         ensures { result ≡ bytes }
     {
         Message {
-            bytes: Bytes::Short(in_place(bytes)),
+            bytes: Bytes::Short(InPlace::of(bytes)),
         }
     }
 
@@ -154,7 +187,7 @@ impl Message {
     {
         match self.bytes {
             Bytes::Short(short) => {
-                let size = short.bytes.len();
+                let size = short.len();
                 prove!(size <= IN_PLACE);
                 None
             }
@@ -169,8 +202,8 @@ impl Message {
         ensures { self.new ≡ bytes }
     {
         match &mut self.bytes {
-            Bytes::Short(short) => short.bytes = bytes,
-            Bytes::Long(_) => self.bytes = Bytes::Short(in_place(bytes)),
+            Bytes::Short(short) => *short = InPlace::of(bytes),
+            Bytes::Long(_) => self.bytes = Bytes::Short(InPlace::of(bytes)),
         }
     }
 
@@ -216,7 +249,7 @@ impl Message {
         ensures { self.new ≡ take (length self.old - length part.now) self.old ++ part.now }
     {
         match &mut self.bytes {
-            Bytes::Short(short) => set_frame_end(&mut short.bytes, part),
+            Bytes::Short(short) => *short = InPlace::of(with_end(short.as_slice(), part)),
             Bytes::Long(bytes) => set_end(bytes.as_mut_slice(), part),
         }
     }
@@ -230,18 +263,18 @@ impl Message {
         ensures in_place { length self.now ≤ 8 → IsOk result }
     {
         match &self.bytes {
-            Bytes::Short(short) => Ok(Message::in_place(short.bytes.copy())),
+            Bytes::Short(short) => Ok(Message::in_place(short.frame())),
             Bytes::Long(bytes) => Message::of(*bytes.allocator(), bytes.as_slice()),
         }
     }
 
     /// The bytes as those of a frame, where they stand in place.
     #[inline(always)]
-    pub(crate) fn in_frame(&self) -> Option<&FrameBytes>
-        ensures { IfSome result (λ bytes. bytes.now ≡ self.now) }
+    pub(crate) fn in_frame(&self) -> Option<FrameBytes>
+        ensures { IfSome result (λ bytes. bytes ≡ self.now) }
     {
         match &self.bytes {
-            Bytes::Short(short) => Some(&short.bytes),
+            Bytes::Short(short) => Some(short.frame()),
             Bytes::Long(_) => None,
         }
     }
@@ -253,7 +286,7 @@ impl Message {
         ensures fits { (1 ≤ length result.now) × (length result.now ≤ 65535) }
     {
         match &self.bytes {
-            Bytes::Short(short) => short.bytes.as_slice(),
+            Bytes::Short(short) => short.as_slice(),
             Bytes::Long(bytes) => bytes.as_slice(),
         }
     }
@@ -280,13 +313,13 @@ fn set_end(bytes: &mut [u8], part: &[u8])
     bytes[kept..].copy_from_slice(part);
 }
 
-/// The same, in a frame.
-fn set_frame_end(bytes: &mut FrameBytes, part: &[u8])
-    requires { length part.now ≤ length bytes.old }
-    ensures { bytes.new ≡ take (length bytes.old - length part.now) bytes.old ++ part.now }
+/// Bytes of a frame, these in place of the last ones.
+fn with_end(bytes: &[u8], part: &[u8]) -> FrameBytes
+    requires part { length part.now ≤ length bytes.now }
+    requires few { length bytes.now ≤ 8 }
+    ensures { result ≡ take (length bytes.now - length part.now) bytes.now ++ part.now }
 {
-    let kept = bytes.len() - part.len();
-    let mut whole = FrameBytes::from_slice(&bytes.as_slice()[..kept]);
+    let mut whole = FrameBytes::from_slice(&bytes[..bytes.len() - part.len()]);
     whole.append(part);
-    *bytes = whole;
+    whole
 }
