@@ -1,9 +1,11 @@
 -- What is kept of a tester's frames, with a frame more.
-use Rattle.std.proofs.Common.{◌≡◌, ℕ, Bool, true, false, Option, Some, None, List, [], ◌∷◌, ◌++◌, map, inl, inr, refl, ap, ap₂, subst, sym, ◌∙◌, append_assoc}
+use Rattle.std.proofs.Common.{◌≡◌, ◌≢◌, ℕ, Bool, true, false, Option, Some, None, List, [], ◌∷◌, ◌++◌, drop, map, inl, inr, refl, ap, ap₂, subst, sym, ◌∙◌, append_assoc}
 use Rattle.std.proofs.lemmas.List.{append-nil, map-append}
+use Rattle.std.proofs.lemmas.Option.{none-some, same_Some}
 use Rattle.std.proofs.lemmas.Slice.Eq.{bytes_eq-Decides}
-use Rattle.std.specs.Prelude.{bytes_eq, is_some, if◌then◌else◌}
-use Rattle.diag_bus.specs.Comparing.{Apart, Compares, OneIsEmpty, Part}
+use Rattle.std.specs.Prelude.{bytes_eq, is_some, if◌then◌else◌, slice_get}
+use Rattle.diag_ecu.proofs.Unlocking.{bytes_same}
+use Rattle.diag_bus.specs.Comparing.{Apart, OneIsEmpty, Part}
 use Rattle.diag_bus.specs.Verdict.{bytes_of, difference}
 use Rattle.diag_bus.specs.declared.comparing.Comparison.{Comparison}
 use Rattle.diag_bus.specs.declared.verdict.Recorded.{Recorded}
@@ -15,6 +17,18 @@ bytes_self xs = (bytes_eq-Decides xs xs).1 refl
 pub none_is : {X : Type 0} (o : Option X) → is_some o ≡ false → o ≡ None
 none_is None e = refl
 none_is (Some x) e = cc
+
+pub bytes_other : (a b : List ℕ) → a ≢ b → bytes_eq a b ≡ false
+bytes_other a b other =
+    (elim (bytes_eq a b) as (λ t. bytes_eq a b ≡ t → t ≡ false) [
+      | true ↦ λ same. absurd (other (bytes_same a b same))
+      | false ↦ λ same. refl
+    ]) refl
+
+-- a list by its first item
+pub by_front : {X : Type 0} (xs : List X) (x : X) → slice_get xs 0 ≡ Some x → xs ≡ x ∷ drop 1 xs
+by_front [] x there = absurd (none-some x there)
+by_front (y ∷ xs) x there = ap (λ (z : _). z ∷ xs) (same_Some _ _ there)
 
 -- a frame beside the bytes that are expected at its index
 abbrev pub differs_by : Recorded → Option (List ℕ) → Difference
@@ -58,9 +72,10 @@ module _ (frame : Recorded) (bytes : List ℕ) (ahead : List Recorded) (behind :
 
 -- ---- a frame that is compared with the first of those that are kept
 
-module _ (kept : Comparison) (recorded : List Recorded) (expected : List (List ℕ)) (none : kept.difference ≡ None) (h : Compares kept recorded expected) where
+module _ (kept : Comparison) (recorded : List Recorded) (expected : List (List ℕ)) (none : kept.difference ≡ None)
+    (apart : Apart kept.difference kept.ahead.items kept.behind.items recorded expected) where
   gap : Part kept.ahead.items kept.behind.items recorded expected × OneIsEmpty kept.ahead.items kept.behind.items
-  gap = subst (λ d. Apart d kept.ahead.items kept.behind.items recorded expected) none h.apart
+  gap = subst (λ d. Apart d kept.ahead.items kept.behind.items recorded expected) none apart
 
   -- where some are kept of one, none are of the other
   other_behind : (frame : Recorded) (rest : List Recorded) → kept.ahead.items ≡ frame ∷ rest → kept.behind.items ≡ []

@@ -5,7 +5,7 @@ use Rattle.std.proofs.lemmas.List.{append-nil, map-append, length-append, length
 use Rattle.std.proofs.lemmas.List.Elements.{filter-append}
 use Rattle.std.proofs.lemmas.Option.{none-some, same_Some, slice_get_within}
 use Rattle.std.specs.List.{filter}
-use Rattle.std.specs.Prelude.{◌==◌, ◌&&◌, if◌then◌else◌, IfSome, not, option_map, slice_get, slice_set}
+use Rattle.std.specs.Prelude.{◌&&◌, if◌then◌else◌, IfSome, not, option_map, slice_get, slice_set}
 use Rattle.std.specs.Option.{option_to_list}
 use Rattle.diag_can.specs.declared.bus_line.BusLine.{BusLine}
 use Rattle.diag_can.specs.declared.frame.Frame.{Frame}
@@ -14,7 +14,7 @@ use Rattle.diag_tp.specs.Wire.{wire, sendings, grant}
 use Rattle.diag_setup.specs.Setup.{ids_of}
 use Rattle.diag_setup.specs.declared.raw.RawSetup.{RawSetup}
 use Rattle.diag_world.proofs.Worlds.{set_cases}
-use Rattle.diag_bus.specs.Comparing.{Compares, ComparesLines, Each, EachExpects, EachRecords, Expects, Records, TakesLine, frame_has}
+use Rattle.diag_bus.specs.Comparing.{Compares, ComparesLines, Each, EachExpects, EachRecords, Expects, Records, TakesLine, frame_has, shown}
 use Rattle.diag_bus.specs.Events.{events_of, frame_said}
 use Rattle.diag_bus.specs.Filled.{AreFilled}
 use Rattle.diag_bus.specs.RequestIds.{IsWithin}
@@ -161,17 +161,13 @@ module _ (setup : RawSetup) (t n : ℕ) (frame : Frame) where
   pub other_none : response ≢ frame.id → frame_has setup t n (Some frame) ≡ []
   other_none apart = rw (ne_eqb frame.id response (λ same. apart (sym same))) refl
 
-  -- it says response pending
-  pub pending_none : is_pending frame.bytes ≡ true → frame_has setup t n (Some frame) ≡ []
-  pending_none pending = rw pending (none (frame.id == response))
-    where
-      none : (b : Bool) → option_to_list (option_map (at_line n) (if b && false then Some frame.bytes else None)) ≡ []
-      none true = refl
-      none false = refl
-
   -- it is the unit's own to the tester
-  pub own_frame : response ≡ frame.id → is_pending frame.bytes ≡ false → frame_has setup t n (Some frame) ≡ at_line n frame.bytes ∷ []
-  own_frame same shown = rw (eq-eqb frame.id response (sym same), shown) refl
+  pub own_frame : response ≡ frame.id → frame_has setup t n (Some frame) ≡ shown n frame.bytes
+  own_frame same = rw (eq-eqb frame.id response (sym same)) (by (is_pending frame.bytes))
+    where
+      by : (b : Bool) → option_to_list (option_map (at_line n) (if true && not b then Some frame.bytes else None)) ≡ (if b then [] else at_line n frame.bytes ∷ [])
+      by true = refl
+      by false = refl
 
 module _ (setup : RawSetup) (n : ℕ) (frame : Frame) (responder : Option ℕ) (old : List Comparison)
     (h : IsResponder setup frame.id (length old) responder) where
@@ -183,18 +179,15 @@ module _ (setup : RawSetup) (n : ℕ) (frame : Frame) (responder : Option ℕ) (
   nobody_records none = each_same _ old (λ i own at. records_none own _
       (other_none setup (i + 1) n frame (λ same. none-some (i + 1) (sym none ∙ h.alone (i + 1) (one_of i own at) same))))
 
-  pub pending_records : is_pending frame.bytes ≡ true → EachRecords setup n (Some frame) old old
-  pending_records pending = each_same _ old (λ i own at. records_none own _ (pending_none setup (i + 1) n frame pending))
-
-  pub own_records : (who : ℕ) (own new : Comparison) → responder ≡ Some who → is_pending frame.bytes ≡ false
-      → slice_get old (who - 1) ≡ Some own → Records own new (at_line n frame.bytes ∷ [])
+  pub own_records : (who : ℕ) (own new : Comparison) → responder ≡ Some who
+      → slice_get old (who - 1) ≡ Some own → Records own new (shown n frame.bytes)
       → EachRecords setup n (Some frame) old (slice_set old (who - 1) new)
-  own_records who own new is shown here took =
+  own_records who own new is here took =
       let has = subst (λ (r : Option ℕ). IfSome r (λ w. IsWithin (length old) w × ((ids_of setup w).response ≡ frame.id))) is h.has in
       let place : who ≡ who - 1 + 1 = omega (arith, has.0.0) in
       each_at _ old (who - 1) own new here
       (subst (λ t. Records own new (frame_has setup t n (Some frame))) place
-      (subst (λ (fs : List Recorded). Records own new fs) (sym (own_frame setup who n frame has.1 shown)) took))
+      (subst (λ (fs : List Recorded). Records own new fs) (sym (own_frame setup who n frame has.1)) took))
       (λ i c apart at. records_none c _ (other_none setup (i + 1) n frame (λ same.
       let one : who ≡ i + 1 = same_Some _ _ (sym is ∙ h.alone (i + 1) (one_of i c at) same) in
       apart (omega (arith, one)))))

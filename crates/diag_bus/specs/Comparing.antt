@@ -1,5 +1,5 @@
 -- What is kept of a recording and of the frames that the server sends: those by which the two are apart.
-use Rattle.std.specs.Prelude.{◌≡◌, ◌≢◌, ◌⊎◌, ℕ, ◌+◌, List, [], ◌∷◌, ◌++◌, length, map, Option, Some, None, Ok, option_map, slice_get}
+use Rattle.std.specs.Prelude.{◌≡◌, ◌≢◌, ◌⊎◌, ℕ, ◌+◌, List, [], ◌∷◌, ◌++◌, length, map, if◌then◌else◌, Option, Some, None, Ok, option_map, slice_get}
 use Rattle.std.specs.Option.{option_to_list}
 use Rattle.diag_can.specs.declared.bus_line.BusLine.{BusLine}
 use Rattle.diag_can.specs.declared.frame.Frame.{Frame}
@@ -8,7 +8,7 @@ use Rattle.diag_setup.specs.Setup.{ids_of}
 use Rattle.diag_setup.specs.declared.raw.RawSetup.{RawSetup}
 use Rattle.diag_bus.specs.Events.{events_of, line_said}
 use Rattle.diag_bus.specs.Text.{sent_of}
-use Rattle.diag_bus.specs.Verdict.{at_line, bytes_of, difference, earlier, expected, expected_of, first_difference, recorded, reply_bytes, verdict}
+use Rattle.diag_bus.specs.Verdict.{at_line, bytes_of, difference, earlier, expected, expected_of, first_difference, is_pending, recorded, reply_bytes, verdict}
 use Rattle.diag_bus.specs.declared.comparing.Comparison.{Comparison}
 use Rattle.diag_bus.specs.declared.comparing.Comparisons.{Comparisons}
 use Rattle.diag_bus.specs.declared.verdict.Recorded.{Recorded}
@@ -54,13 +54,16 @@ Records old new frames = (recorded : List Recorded) (expected : List (List ℕ))
     → Compares old recorded expected
     → Compares new (recorded ++ frames) expected
 
--- two frames were compared that stand at one index, behind which this was kept
-abbrev pub Compared : Comparison → Comparison → Recorded → List ℕ → Type 0
-Compared old new frame bytes = (recorded : List Recorded) (expected : List (List ℕ))
-    → old.count ≡ length recorded
-    → Part (frame ∷ old.ahead.items) (bytes ∷ old.behind.items) recorded expected
-    → OneIsEmpty old.ahead.items old.behind.items
-    → Compares new recorded expected
+-- this frame of the recording was taken, and is counted already
+abbrev pub RecordsCounted : Comparison → Comparison → Recorded → Type 0
+RecordsCounted old new frame = (recorded : List Recorded) (expected : List (List ℕ))
+    → old.count ≡ length recorded + 1
+    → Apart old.difference old.ahead.items old.behind.items recorded expected
+    → Compares new (recorded ++ frame ∷ []) expected
+
+-- what a frame of the line of that number is of the recording: nothing where it says response pending
+abbrev pub shown : ℕ → List ℕ → List Recorded
+shown n bytes = if is_pending bytes then [] else at_line n bytes ∷ []
 
 -- ---- of all testers
 

@@ -1,12 +1,12 @@
 //! What is kept of a recording and of the frames that the server sends, to compare the two.
 
-ghost use Rattle.std.specs.Prelude.{◌≡◌, ◌≤◌, ℕ, List, [], ◌∷◌, ◌+◌, length, map, slice_get, option_copied, Some, IfSome, OnOk, OnErr, IfOk};
-ghost use Rattle.diag_bus.specs.Comparing.{Compared, Compares, ComparesLines, Disagrees, EachExpects, EachRecords, Expects, IsLack, IsVerdict, Records, TakesLine};
+ghost use Rattle.std.specs.Prelude.{◌≡◌, ◌≢◌, ◌≤◌, ℕ, List, [], ◌∷◌, ◌++◌, ◌+◌, length, map, slice_get, option_copied, Some, IfSome, IsSomeAnd, OnOk, OnErr, IfOk};
+ghost use Rattle.diag_bus.specs.Comparing.{Compares, ComparesLines, Disagrees, EachExpects, EachRecords, Expects, IsLack, IsVerdict, Records, RecordsCounted, TakesLine, shown};
 ghost use Rattle.diag_bus.specs.Filled.{AreFilled};
 ghost use Rattle.diag_bus.specs.Node.{lists_of};
 ghost use Rattle.diag_bus.specs.RequestIds.{IsWithin};
 ghost use Rattle.diag_bus.specs.ResponseIds.{AreResponsesOf, IsResponder};
-ghost use Rattle.diag_bus.specs.Verdict.{difference, expected_of, first_difference, is_pending, recorded};
+ghost use Rattle.diag_bus.specs.Verdict.{at_line, difference, expected_of, first_difference, is_pending, recorded};
 ghost use Rattle.diag_bus.specs.declared.comparing.Comparison.{Comparison as AComparison};
 ghost use Rattle.diag_bus.specs.declared.verdict.Recorded.{Recorded as ARecorded};
 ghost use Rattle.diag_setup.specs.declared.raw.RawSetup.{RawSetup};
@@ -17,7 +17,7 @@ use crate::line_frames::LineFrames;
 use crate::response_ids::ResponseIds;
 use crate::sink::Sink;
 use crate::verdict::{Difference, LentDifference, Recorded, Verdict, earlier};
-use diag_can::{BusLine, FrameText, KeptBytes, TickCount};
+use diag_can::{BusLine, FrameBytes, FrameText, KeptBytes, TickCount};
 use diag_ecu::Ecu;
 use diag_pdu::{Message, Request};
 use diag_setup::{Setup, TesterId};
@@ -53,15 +53,102 @@ impl Comparison {
         }
     }
 
-    /// Compares a frame of the recording with the one that the server sends at its index.
+    /// Takes a frame that the server sends. One that the recording had is looked at where it lies, and kept no longer.
     #[inline(always)]
-    fn compare(&mut self, frame: Recorded, bytes: KeptBytes)
-        requires { self.old.difference ≡ None }
-        ensures { Compared self.old self.new frame bytes }
+    fn expect(&mut self, bytes: &[u8]) -> Result<(), AllocError>
+        requires { length bytes.now ≤ 64 }
+        ensures { OnOk result (Expects self.old self.new (bytes.now ∷ [])) }
     {
-        if !frame.bytes.is(bytes.as_slice()) {
-            self.settle(frame, bytes);
+        if self.difference.is_some() {
+            return Ok(());
         }
+        let Some(frame) = self.ahead.front() else {
+            return keep(&mut self.behind, bytes);
+        };
+        if !frame.bytes.is(bytes) {
+            return self.expect_other(bytes);
+        }
+        let _ = self.ahead.pop_front();
+        Ok(())
+    }
+
+    /// The same where the recording has another frame at its index: the first difference.
+    #[cold]
+    #[inline(never)]
+    fn expect_other(&mut self, bytes: &[u8]) -> Result<(), AllocError>
+        requires fits { length bytes.now ≤ 64 }
+        requires agrees { self.old.difference ≡ None }
+        requires other { IsSomeAnd (slice_get self.old.ahead.items 0) (λ frame. frame.bytes ≢ bytes.now) }
+        ensures { OnOk result (Expects self.old self.new (bytes.now ∷ [])) }
+    {
+        let bytes = KeptBytes::of(*self.behind.allocator(), bytes)?;
+        let Some(frame) = self.ahead.pop_front() else {
+            unreachable!()
+        };
+        self.settle(frame, bytes);
+        Ok(())
+    }
+
+    /// Takes the frame of the recording's line of that number, unless it says response pending.
+    #[inline(always)]
+    fn record_frame(&mut self, line: u64, frame: &FrameText) -> Result<(), AllocError>
+        ensures { OnOk result (Records self.old self.new (shown line frame.now.bytes)) }
+    {
+        if frame.is_long() {
+            return self.record_long(line, frame);
+        }
+        let bytes = frame.bytes();
+        self.record(line, bytes.as_slice())
+    }
+
+    /// The same of a frame of more than 8 bytes.
+    #[cold]
+    #[inline(never)]
+    fn record_long(&mut self, line: u64, frame: &FrameText) -> Result<(), AllocError>
+        ensures { OnOk result (Records self.old self.new (shown line frame.now.bytes)) }
+    {
+        let bytes = frame.long_bytes();
+        self.record(line, bytes.as_slice())
+    }
+
+    /// The same of a frame of these bytes. One that the server has sent is looked at where it lies, and kept no longer.
+    #[inline(always)]
+    fn record(&mut self, line: u64, bytes: &[u8]) -> Result<(), AllocError>
+        requires { length bytes.now ≤ 64 }
+        ensures { OnOk result (Records self.old self.new (shown line bytes.now)) }
+    {
+        if is_pending(bytes) {
+            return Ok(());
+        }
+        self.count = next(self.count)?;
+        if self.difference.is_some() {
+            return Ok(());
+        }
+        let Some(expected) = self.behind.front() else {
+            return self.record_other(line, bytes);
+        };
+        if !expected.is(bytes) {
+            return self.record_other(line, bytes);
+        }
+        let _ = self.behind.pop_front();
+        Ok(())
+    }
+
+    /// Takes a frame of the recording that is counted already, where the server has sent none or another at its index.
+    #[inline(never)]
+    fn record_other(&mut self, line: u64, bytes: &[u8]) -> Result<(), AllocError>
+        requires fits { length bytes.now ≤ 64 }
+        requires agrees { self.old.difference ≡ None }
+        requires other { IfSome (slice_get self.old.behind.items 0) (λ expected. expected ≢ bytes.now) }
+        ensures { OnOk result (RecordsCounted self.old self.new (at_line line bytes.now)) }
+    {
+        let bytes = KeptBytes::of(*self.ahead.allocator(), bytes)?;
+        let frame = Recorded { line, bytes };
+        match self.behind.pop_front() {
+            Some(expected) => self.settle(frame, expected),
+            None => self.ahead.push_back(frame)?,
+        }
+        Ok(())
     }
 
     /// This is the first difference. Nothing is kept behind it.
@@ -84,37 +171,6 @@ impl Comparison {
         });
         self.ahead.clear();
         self.behind.clear();
-    }
-
-    /// Takes a frame that the server sends.
-    fn expect(&mut self, bytes: &[u8]) -> Result<(), AllocError>
-        requires { length bytes.now ≤ 64 }
-        ensures { OnOk result (Expects self.old self.new (bytes.now ∷ [])) }
-    {
-        if self.difference.is_some() {
-            return Ok(());
-        }
-        let bytes = KeptBytes::of(*self.behind.allocator(), bytes)?;
-        match self.ahead.pop_front() {
-            Some(frame) => self.compare(frame, bytes),
-            None => self.behind.push_back(bytes)?,
-        }
-        Ok(())
-    }
-
-    /// Takes a frame of the recording.
-    fn record(&mut self, frame: Recorded) -> Result<(), AllocError>
-        ensures { OnOk result (Records self.old self.new (frame ∷ [])) }
-    {
-        self.count = next(self.count)?;
-        if self.difference.is_some() {
-            return Ok(());
-        }
-        match self.behind.pop_front() {
-            Some(bytes) => self.compare(frame, bytes),
-            None => self.ahead.push_back(frame)?,
-        }
-        Ok(())
     }
 
     /// Takes the frames that the server sends with a line, those left out that say response pending.
@@ -427,33 +483,31 @@ fn record(
     let Some(who) = responder else {
         return Ok(());
     };
-    let bytes = kept_bytes(*testers.allocator(), frame)?;
-    if is_pending(bytes.as_slice()) {
-        return Ok(());
-    }
-    testers[who.index()].record(Recorded { line, bytes })
+    testers[who.index()].record_frame(line, frame)
 }
 
-/// The bytes of a frame; up to 8 take no memory.
+/// Keeps a frame that the server sends. (One of eight bytes, as most have, is written straight to where it is kept.)
 #[inline(always)]
-fn kept_bytes(alloc: Global, frame: &FrameText) -> Result<KeptBytes, AllocError>
-    ensures { IfOk result (λ bytes. bytes ≡ frame.now.bytes) }
+fn keep(behind: &mut VecDeque<KeptBytes>, bytes: &[u8]) -> Result<(), AllocError>
+    requires { length bytes.now ≤ 64 }
+    ensures { OnOk result (behind.new.items ≡ behind.old.items ++ bytes.now ∷ []) }
 {
-    if frame.is_long() {
-        long_bytes(alloc, frame)
-    } else {
-        Ok(KeptBytes::short(frame.bytes()))
+    match bytes.as_array::<8>() {
+        Some(eight) => behind.push_back(KeptBytes::short(FrameBytes::full(*eight)))?,
+        None => keep_other(behind, bytes)?,
     }
+    Ok(())
 }
 
-/// The same, however many they are.
-#[cold]
+/// The same, however many bytes it has.
 #[inline(never)]
-fn long_bytes(alloc: Global, frame: &FrameText) -> Result<KeptBytes, AllocError>
-    ensures { IfOk result (λ bytes. bytes ≡ frame.now.bytes) }
+fn keep_other(behind: &mut VecDeque<KeptBytes>, bytes: &[u8]) -> Result<(), AllocError>
+    requires { length bytes.now ≤ 64 }
+    ensures { OnOk result (behind.new.items ≡ behind.old.items ++ bytes.now ∷ []) }
 {
-    let bytes = frame.long_bytes();
-    KeptBytes::of(alloc, bytes.as_slice())
+    let kept = KeptBytes::of(*behind.allocator(), bytes)?;
+    behind.push_back(kept)?;
+    Ok(())
 }
 
 /// Whether a frame says response pending.
