@@ -20,9 +20,11 @@ use Rattle.diag_bus.specs.declared.verdict.Verdict.TheVariants.{Agrees, Differs,
 
 -- ---- what was recorded
 
--- a Single frame that says response pending (ISO 14229-1:2013, A.1), filled or not
+-- a SingleFrame that says response pending (ISO 14229-1:2013, A.1), filled or not. In a frame of more than 8 bytes 0x03 isn't
+-- the length of a SingleFrame (ISO 15765-2:2016, 9.6.2)
 abbrev pub is_pending : List ℕ → Bool
-is_pending bytes = slice_index bytes 0 == 0x03 && slice_index bytes 1 == 0x7F && slice_index bytes 3 == 0x78
+is_pending bytes =
+    nat_lt (length bytes) 9 && slice_index bytes 0 == 0x03 && slice_index bytes 1 == 0x7F && slice_index bytes 3 == 0x78
 
 -- the bytes of a frame with this identifier, unless it says response pending
 abbrev pub reply_bytes : ℕ → Option Frame → Option (List ℕ)

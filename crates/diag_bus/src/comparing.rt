@@ -514,7 +514,7 @@ fn keep_other(behind: &mut VecDeque<KeptBytes>, bytes: &[u8]) -> Result<(), Allo
 fn is_pending(bytes: &[u8]) -> bool
     ensures { result ≡ is_pending bytes.now }
 {
-    matches!(bytes, [0x03, 0x7F, _, 0x78, ..])
+    bytes.len() <= 8 && matches!(bytes, [0x03, 0x7F, _, 0x78, ..])
 }
 
 /// The number behind this one.

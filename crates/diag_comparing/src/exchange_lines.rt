@@ -21,7 +21,7 @@ use crate::telling::write_batch;
 use diag_bus::{Clock, ResponseIds};
 use diag_can::{BusLine, FrameText, KeptBytes, TickCount};
 use diag_ecu::Ecu;
-use diag_exchange::CaptureLine;
+use diag_exchange::{CaptureLine, Spare};
 use diag_expect::Entered;
 use diag_judge::{Judged, Tester};
 use diag_pdu::{LinkSetup, Message, Request};
@@ -45,8 +45,10 @@ pub struct ExchangeLines {
     pub testers: Vec<Tester>,
     /// Outside it all testers are idle.
     pub busy: Range,
-    /// Room for what is over with a line.
+    /// What is over with a line.
     pub batch: Vec<Judged>,
+    /// Boxes for exchanges to come.
+    pub spare: Spare,
     /// Room for its lines.
     pub text: Vec<u8>,
 }
@@ -166,6 +168,7 @@ fn take_each(
     at: CaptureLine,
     said: &BusLine,
     span: u64,
+    spare: &mut Spare,
     judged: &mut Vec<Judged>,
 ) -> Result<Range, AllocError>
     requires many { length testers.old.items ≡ length setup.now.testers }
@@ -180,7 +183,6 @@ fn take_each(
 {
     // (for its contract: the frame is that of this line)
     let _said = said;
-    let alloc = *judged.allocator();
     let end = range.end.min(testers.len());
     let first = range.first.min(end);
     let mut left = Range::none();
@@ -189,7 +191,7 @@ fn take_each(
             unreachable!()
         };
         let frame = bytes_to(sent, who);
-        testers[index].take_line(alloc, setup, who, at, span, frame, judged)?;
+        testers[index].take_line(spare, setup, who, at, span, frame, judged)?;
         left = left_with(left, index, &testers[index]);
     }
     Ok(left)
@@ -209,6 +211,17 @@ fn left_with(left: Range, index: usize, tester: &Tester) -> Range
     }
 }
 
+/// Gives back the boxes of exchanges that were told, and leaves none.
+#[inline(always)]
+fn give_back(told: &mut Vec<Judged>, spare: &mut Spare)
+    ensures { told.new.items ≡ [] }
+{
+    for _turn in 0..told.len() {
+        let one = told.take_last();
+        spare.take_back(one.over);
+    }
+}
+
 impl ExchangeLines {
     /// What is kept before a setup is known.
     pub fn new(alloc: Global, differences: bool) -> ExchangeLines
@@ -224,6 +237,7 @@ impl ExchangeLines {
             testers: Vec::new(alloc),
             busy: Range::none(),
             batch: Vec::new(alloc),
+            spare: Spare::new(alloc),
             text: Vec::new(alloc),
         }
     }
@@ -314,8 +328,8 @@ impl ExchangeLines {
             number: line,
             moment: clock.time,
         };
-        self.batch.clear();
-        let alloc = *self.batch.allocator();
+        give_back(&mut self.batch, &mut self.spare);
+        let alloc = self.spare.alloc();
         let sent = unit_frame(alloc, &self.responses, setup, said)?;
         self.busy = asked(self.busy, sent.as_ref());
         self.busy = take_each(
@@ -326,6 +340,7 @@ impl ExchangeLines {
             at,
             said,
             span,
+            &mut self.spare,
             &mut self.batch,
         )?;
         self.stamps.take(line, clock);

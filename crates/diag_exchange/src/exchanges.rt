@@ -10,6 +10,7 @@ ghost use Rattle.diag_exchange.specs.declared.happening.Happening.TheVariants.{A
 use crate::happening::{AskedRequest, Heard, Start};
 use crate::open_box::OpenBox;
 use crate::over::Over;
+use crate::spare::Spare;
 use diag_pdu::Message;
 use std::alloc::{AllocError, Global};
 
@@ -136,19 +137,24 @@ impl Exchanges {
         }
     }
 
-    /// A request is complete; what is over with it is put behind `over`.
+    /// A request is complete; what is over with it is put behind `over`. Its exchange goes into a spare box, where there is one.
     ///
     /// # Errors
     /// `AllocError` where memory is refused, and then nothing has changed.
     #[inline(always)]
-    pub fn ask(&mut self, request: AskedRequest, over: &mut Vec<Over>) -> Result<(), AllocError>
+    pub fn ask(
+        &mut self,
+        request: AskedRequest,
+        spare: &mut Spare,
+        over: &mut Vec<Over>,
+    ) -> Result<(), AllocError>
         ensures ok { OnOk result (Took self.old self.new over.old.items over.new.items
             (Asked request)) }
         ensures coming { OnOk result (self.new.coming ≡ self.old.coming) }
         ensures err { OnErr result (IsUnchanged self.old self.new) }
         ensures out { OnErr result (over.new.items ≡ over.old.items) }
     {
-        let open = OpenBox::new(*over.allocator(), request)?;
+        let open = spare.open(request)?;
         over.reserve(self.live.len())?;
         self.live.reserve(1)?;
         ask_again(&mut self.live, &open.get().request);

@@ -9,6 +9,7 @@ mod open;
 mod open_box;
 mod over;
 mod records;
+mod spare;
 
 pub use exchanges::Exchanges;
 pub use happening::{AskedRequest, CaptureLine, Expected, Happening, Heard, Start};
@@ -16,3 +17,4 @@ pub use laws::{agrees_law, few_law, once_law, over_law};
 pub use open::Open;
 pub use open_box::OpenBox;
 pub use over::{Over, OverKind};
+pub use spare::Spare;

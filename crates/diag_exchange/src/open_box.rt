@@ -37,6 +37,14 @@ impl OpenBox {
         }
     }
 
+    /// Becomes a request of which nothing was heard.
+    #[inline(always)]
+    pub fn set(&mut self, request: AskedRequest)
+        ensures { self.new ≡ opened request }
+    {
+        *self.open = Open::new(request);
+    }
+
     /// The same again.
     ///
     /// # Errors

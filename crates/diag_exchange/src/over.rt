@@ -1,6 +1,6 @@
 //! What is over.
 
-ghost use Rattle.std.specs.Prelude.{◌≡◌, IfOk};
+ghost use Rattle.std.specs.Prelude.{◌≡◌, IfOk, IfSome};
 ghost use Rattle.diag_exchange.specs.Over as over;
 ghost use Rattle.diag_exchange.specs.OverKind.{over_of};
 ghost use Rattle.diag_exchange.specs.Streaming.{told};
@@ -70,6 +70,17 @@ impl Over {
                 kept: Kept::Unasked(heard),
             }),
             Err(_) => Err(AllocError),
+        }
+    }
+
+    /// The exchange, where it is one.
+    #[inline(always)]
+    pub fn into_box(self) -> Option<OpenBox>
+        ensures { IfSome result (λ own. told own ≡ self) }
+    {
+        match self.kept {
+            Kept::Asked(own) => Some(own),
+            Kept::Unasked(_) => None,
         }
     }
 

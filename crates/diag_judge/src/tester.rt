@@ -6,7 +6,7 @@ ghost use Rattle.diag_exchange.specs.Over.{Over as AnOver};
 ghost use Rattle.diag_judge.specs.Judging.{AreCounts, EndsCounted, EndsJudged, HearsLine, HearsRequests, Judges, JudgesLine, judged_for};
 
 use diag_can::KeptBytes;
-use diag_exchange::{CaptureLine, Over};
+use diag_exchange::{CaptureLine, Over, Spare};
 use diag_expect::Entered;
 use diag_listen::Listener;
 use diag_pdu::LinkSetup;
@@ -51,7 +51,7 @@ pub struct Tester {
 /// Hears requests that are complete at a line, and leaves none; what is over with them is put behind `over`.
 fn hear_requests(
     listener: &mut Listener,
-    alloc: Global,
+    spare: &mut Spare,
     setup: &Setup,
     at: CaptureLine,
     entered: &mut Vec<Entered>,
@@ -65,8 +65,8 @@ fn hear_requests(
     entered.reverse();
     for _turn in 0..entered.len() {
         let one = entered.take_last();
-        let request = one.into_request(alloc, setup, at)?;
-        listener.ask(request, over)?;
+        let request = one.into_request(spare.alloc(), setup, at)?;
+        listener.ask(request, spare, over)?;
     }
     Ok(())
 }
@@ -120,14 +120,15 @@ impl Tester {
     }
 
     /// Takes the end of a line: so many milliseconds, the requests that were entered, and a frame of the unit, where the
-    /// line has one. What is over with it is put behind `judged`.
+    /// line has one. What is over with it is put behind `judged`. Exchanges go into
+    /// spare boxes, where there are some.
     ///
     /// # Errors
     /// `AllocError` where memory is refused; of what was taken nothing is said then.
     #[inline(always)]
     pub fn take_line(
         &mut self,
-        alloc: Global,
+        spare: &mut Spare,
         setup: &Setup,
         who: TesterId,
         at: CaptureLine,
@@ -143,7 +144,7 @@ impl Tester {
         if frame.is_none() && self.is_idle() {
             return Ok(());
         }
-        self.take(alloc, setup, who, at, span, frame, judged)
+        self.take(spare, setup, who, at, span, frame, judged)
     }
 
     /// Whether time alone changes nothing: no request was entered, and no message is coming in.
@@ -159,7 +160,7 @@ impl Tester {
     #[inline(never)]
     fn take(
         &mut self,
-        alloc: Global,
+        spare: &mut Spare,
         setup: &Setup,
         who: TesterId,
         at: CaptureLine,
@@ -172,18 +173,19 @@ impl Tester {
         ensures entered { OnOk result (self.new.entered.items ≡ []) }
         ensures link_setup { self.new.listener.setup ≡ self.old.listener.setup }
     {
-        self.hear(alloc, setup, at, span, frame)?;
+        self.hear(spare, setup, at, span, frame)?;
         if self.over.is_empty() {
             return Ok(());
         }
-        self.counts.judge(alloc, who, &mut self.over, judged)
+        self.counts
+            .judge(spare.alloc(), who, &mut self.over, judged)
     }
 
     /// Hears a line, and keeps what is over with it.
     #[inline(always)]
     fn hear(
         &mut self,
-        alloc: Global,
+        spare: &mut Spare,
         setup: &Setup,
         at: CaptureLine,
         span: u64,
@@ -199,7 +201,7 @@ impl Tester {
         self.listener.wait(at, span, &mut self.over)?;
         hear_requests(
             &mut self.listener,
-            alloc,
+            spare,
             setup,
             at,
             &mut self.entered,

@@ -12,7 +12,7 @@ ghost use Rattle.diag_exchange.specs.declared.happening.Happening.TheVariants.{B
 ghost use Rattle.diag_listen.specs.Listening.{Hears, HearsRequest, Listens, Moves, TookEach, after_ticks, began, kind_happens, lost_if, part_happens, ticks_happen};
 
 use diag_can::TickCount;
-use diag_exchange::{AskedRequest, CaptureLine, Exchanges, Over, Start};
+use diag_exchange::{AskedRequest, CaptureLine, Exchanges, Over, Spare, Start};
 use diag_pdu::{DataLength, LinkSetup, Message, Pci};
 use diag_sides::Receiver;
 use std::alloc::{AllocError, Global};
@@ -111,17 +111,22 @@ impl Listener {
         self.take_pci(at, Pci::read(frame, self.setup.max_request), over)
     }
 
-    /// Hears a request of the tester, complete.
+    /// Hears a request of the tester, complete. Its exchange goes into a spare box, where there is one.
     ///
     /// # Errors
     /// As `wait`.
     #[inline(always)]
-    pub fn ask(&mut self, request: AskedRequest, over: &mut Vec<Over>) -> Result<(), AllocError>
+    pub fn ask(
+        &mut self,
+        request: AskedRequest,
+        spare: &mut Spare,
+        over: &mut Vec<Over>,
+    ) -> Result<(), AllocError>
         ensures heard { OnOk result
             (HearsRequest self.old self.new over.old.items over.new.items request) }
         ensures setup { self.new.setup ≡ self.old.setup }
     {
-        self.exchanges.ask(request, over)
+        self.exchanges.ask(request, spare, over)
     }
 
     /// Where all was heard, the exchanges that aren't over are put behind `over`, in memory of their own.

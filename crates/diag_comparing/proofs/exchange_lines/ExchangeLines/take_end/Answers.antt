@@ -34,7 +34,7 @@ returns-then-is_empty-clause-taken c =
           let count = c.in_ok-line.ensures ∙ ap (λ k. k + 1) taken.count in
           let one = c.in_ok-self.ensures.each lines line K (is_line setup lines line said span clock K n count ends) taken.each in
           let pairs = flat_map (over_by (expects setup) setup lines line) (numbers setup) in
-          let are : batch ≡ map judged_pair pairs = one.1 ∙ ap (λ (w : List Judged). w ++ map judged_pair pairs) c.clear.ensures.items in
+          let are : batch ≡ map judged_pair pairs = one.1 ∙ ap (λ (w : List Judged). w ++ map judged_pair pairs) c.give_back.ensures in
           let stamped = stamps_more setup lines line old.stamps stamps n clock.start count ends.start c.take.ensures taken.stamps in (
             record {
               count = count ∙ sym (length-append lines (line ∷ []));
@@ -58,7 +58,7 @@ returns-clause-taken c =
     let stamps = c.take.new.self in
     let batch = c.take_each.new.judged.items in
     let more = lines_at setup stamps d batch in
-    let own : c.write_batch.new.text.items ≡ more = c.in_ok-write_batch.ensures ∙ ap (λ w. w ++ more) c.clear-2.ensures.items in
+    let own : c.write_batch.new.text.items ≡ more = c.in_ok-write_batch.ensures ∙ ap (λ w. w ++ more) c.clear.ensures.items in
     record {
       more = more;
       grown = c.in_ok-extend_from_slice.ensures.items ∙ ap (λ w. c.args.text.now.items ++ w) (c.as_slice.ensures.value ∙ own);
@@ -66,7 +66,7 @@ returns-clause-taken c =
           let count = c.in_ok-line.ensures ∙ ap (λ k. k + 1) taken.count in
           let one = c.in_ok-self.ensures.each lines line K (is_line setup lines line said span clock K n count ends) taken.each in
           let pairs = flat_map (over_by (expects setup) setup lines line) (numbers setup) in
-          let are : batch ≡ map judged_pair pairs = one.1 ∙ ap (λ (w : List Judged). w ++ map judged_pair pairs) c.clear.ensures.items in
+          let are : batch ≡ map judged_pair pairs = one.1 ∙ ap (λ (w : List Judged). w ++ map judged_pair pairs) c.give_back.ensures in
           let stamped = stamps_more setup lines line old.stamps stamps n clock.start count ends.start c.take.ensures taken.stamps in (
             record {
               count = count ∙ sym (length-append lines (line ∷ []));
