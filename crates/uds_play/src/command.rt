@@ -216,7 +216,7 @@ fn verify_command<'a>(alloc: Global) -> Result<Command<'a>, AllocError> {
 fn compare_command<'a>(alloc: Global) -> Result<Command<'a>, AllocError> {
     let about = "Tell of each request in the recording of a whole bus what the unit answered";
     let example = "Example: uds_play compare demo/setup.toml demo/other_unit.log";
-    let differences = "Leave out the exchanges that agree";
+    let differences = "Leave out the exchanges that agree or are ignored";
     capture_command(alloc, "compare", about, example)?.arg(flag(alloc, "differences", differences))
 }
 
