@@ -90,7 +90,6 @@ impl Comparison {
     }
 
     /// Takes the frame of the recording's line of that number, unless it says response pending.
-    #[inline(always)]
     fn record_frame(&mut self, line: u64, frame: &FrameText) -> Result<(), AllocError>
         ensures { OnOk result (Records self.old self.new (shown line frame.now.bytes)) }
     {
@@ -492,10 +491,11 @@ fn keep(behind: &mut VecDeque<KeptBytes>, bytes: &[u8]) -> Result<(), AllocError
     requires { length bytes.now ≤ 64 }
     ensures { OnOk result (behind.new.items ≡ behind.old.items ++ bytes.now ∷ []) }
 {
-    match bytes.as_array::<8>() {
-        Some(eight) => behind.push_back(KeptBytes::short(FrameBytes::full(*eight)))?,
-        None => keep_other(behind, bytes)?,
-    }
+    let Some(eight) = bytes.as_array::<8>() else {
+        return keep_other(behind, bytes);
+    };
+    behind.reserve(1)?;
+    behind.push_back_reserved(KeptBytes::short(FrameBytes::full(*eight)));
     Ok(())
 }
 
