@@ -8,7 +8,8 @@ use crate::open_box::OpenBox;
 use crate::over::Over;
 use std::alloc::{AllocError, Global};
 
-/// Boxes of exchanges that are over, for those to come: memory is asked for only where none is left.
+/// Boxes of exchanges that are over, for those to come: memory is asked for only where none is left. (They are room, of which
+/// no contract speaks.)
 #[derive(Drop)]
 pub struct Spare {
     boxes: Vec<OpenBox>,
