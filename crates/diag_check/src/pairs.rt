@@ -60,6 +60,16 @@ fn functional_id(tester: &Tree, shared: u32) -> (u32, bool) {
     (id, is_extended)
 }
 
+/// Whether the functional identifier of a tester stands nowhere in the setup.
+fn is_by_default(tree: &Tree, tester: &Tree) -> bool {
+    let shared = if is_extended(tester) {
+        None
+    } else {
+        number_at(tree, "functional")
+    };
+    number_at(tester, "functional").or(shared).is_none()
+}
+
 impl Look<'_> {
     /// Identifiers, names and numbers that stand twice.
     pub fn doubles(&mut self, tree: &Tree) -> Result<(), AllocError> {
@@ -115,13 +125,19 @@ impl Look<'_> {
         shared: u32,
         seen: &mut Seen,
     ) -> Result<(), AllocError> {
-        for tester in list_at(tree, "tester") {
+        for (index, tester) in list_at(tree, "tester").iter().enumerate() {
             if let Value::Table(tester) = tester {
                 let key = functional_id(tester, shared);
                 if let Some((name, row)) = seen.remove(&key) {
                     let (id, _) = key;
+                    let other = index.saturating_add(1);
+                    let by = if is_by_default(tree, tester) {
+                        ", by default"
+                    } else {
+                        ""
+                    };
                     let place = format!(in self.alloc;
-                        "{name} of [[tester]] {row} is 0x{id:X}, as functional"
+                        "{name} of [[tester]] {row} is 0x{id:X}, as the functional identifier of [[tester]] {other}{by}"
                     )?;
                     let row = Row::of(Table::Tester, row);
                     self.refuse(SetupFault::DuplicateId, row.key(name), place)?;
