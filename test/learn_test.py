@@ -492,11 +492,42 @@ class OfTheBus(unittest.TestCase):
         found = learn_bus.look(self.lines("7E0#023E00", "7E8#027E00", "7DF#023E80"))
         self.assertEqual(0x7DF, learn_bus.functional_of(found, learn_bus.pairs_of(found)))
 
+    def test_what_asks_another_unit_is_no_functional_identifier(self) -> None:
+        one = ["710#021003", "77A#065003003201F4", "710#0322F190", "77A#0462F19001"]
+        for other, its, is_answered, wanted in (
+            ("7A0", "7A8", True, None), ("7E0", "7E8", True, None), ("18DA11F1", "18DAF111", True, None), ("7A0", "77A", True, 0x7A0),
+            ("7A0", "7A8", False, 0x7A0), ("7E1", "7E9", False, None), ("7DF", "7E9", True, 0x7DF), ("18DA11F1", "18DAF111", False, None),
+        ):
+            asks = [f"{other}#023E80", *([f"{other}#0322F190", f"{its}#0462F19002"] * 4 if is_answered else []), f"{other}#023E80"]
+            found = learn_bus.look(self.lines(*one, *asks, *one[2:]))
+            pair, is_wide = learn_bus.Pair(0x710, 0x77A), len(other) == 8
+            pairs = [learn_bus.Pair(0x18DA10F1, 0x18DAF110, True) if is_wide else pair]
+            self.assertEqual(wanted, learn_bus.functional_of(found, pairs, is_wide), (other, its, is_answered))
+
     def test_how_the_unit_sends(self) -> None:
         pair = [learn_bus.Pair(0x7E0, 0x7E8)]
         found = learn_bus.sending_of(self.lines("7E0#1014", "7E8#300805AAAAAAAAAA", "7E0#21", "7E8#037F2E31AAAAAAAA"), pair)
         self.assertEqual((0xAA, 8, 5, 20, 20), (found.pad, found.block_size, found.st_min, found.longest, found.n_cr))
         self.assertIsNone(learn_bus.sending_of(self.lines("7E8#037F2E31", "7E8#027E00"), pair).pad)
+
+    def test_filling(self) -> None:
+        """It is seen of SingleFrames, of FlowControl, and of the last Consecutive frame."""
+        pair, first = [learn_bus.Pair(0x7E0, 0x7E8)], "7E8#100862F18C010203"
+        for pad, *frames in (
+            (0xAA, "7E8#300805AAAAAAAAAA"), (None, "7E8#300805"), (0xAA, first, "7E8#210405AAAAAAAAAA"), (None, first, "7E8#210405"),
+            (0xCC, "7E8#100D62F18C010203", "7E8#2104050607080910"), (0xCC, "7E8#101462F18C010203", "7E8#2104050607080910"),
+            (0xCC, first, "7E8#220405AAAAAAAAAA"), (0xCC, "7E8#210405AAAAAAAAAA"), (0xCC, "7E8#0000000000000000"), (0xCC, "7E8#")
+        ):
+            self.assertEqual(pad, learn_bus.sending_of(self.lines(*frames), pair).pad, frames)
+
+    def test_filling_by_can_fd(self) -> None:
+        pair, first = [learn_bus.Pair(0x7E0, 0x7E8, is_fd=True)], f"7E8##11012{'41' * 10}"
+        for pad, fill, *frames in (
+            (0x55, 0x55, first, f"7E8##121{'41' * 8}555555"), (None, 0x55, "7E8##1023E00", first, f"7E8##121{'41' * 8}555555"),
+            (0xAA, None, f"7E8##1100F{'41' * 10}", f"7E8##121{'41' * 5}AAAA"), (None, None, f"7E8##1100F{'41' * 10}", f"7E8##121{'41' * 5}"),
+        ):
+            found = learn_bus.sending_of(self.lines(*frames), pair)
+            self.assertEqual((pad, fill, 12), (found.pad, found.fill, found.tx_dl), frames)
 
     def test_pairs_of_can_fd(self) -> None:
         frames = ["7E0##10322F190", f"7E8##1001462F190{'41' * 17}CCCC", "7E1#023E00", "7E9#027E00", "7DF##1023E80"]
@@ -647,6 +678,14 @@ def frames(*pairs: tuple[int, str]) -> str:
     return "".join(f"({100 + ms // 1000:010d}.{ms % 1000:03d}000) can0 {it}\n" for ms, it in pairs)
 
 
+def judged(command: str, it: Learned, lines: str) -> tuple[int, str, str]:
+    """What a command of the program says of a recording by a learned setup: the status, standard output and error."""
+    with tempfile.TemporaryDirectory() as room:
+        words = [OPTIONS[1], command, put(f"{room}/unit.toml", it.text), put(f"{room}/unit.log", lines)]
+        ran = subprocess.run(words, capture_output=True, text=True, timeout=60)
+    return ran.returncode, ran.stdout, ran.stderr
+
+
 def rows_of(it: Learned) -> dict[str, list[str]]:
     return {row["request"]: row.get("reply") for row in it.tree().get("answer", [])}
 
@@ -682,10 +721,26 @@ class OfRecordings(unittest.TestCase):
             found = learned_of(lines)
             self.assertEqual((0, 64), (found.status, found.tree()["tx_dl"]))
             self.assertIn("tx_dl = 64  # no FirstFrame told it\n", found.text)
-            with tempfile.TemporaryDirectory() as room:
-                words = [OPTIONS[1], "verify", put(f"{room}/unit.toml", found.text), put(f"{room}/unit.log", lines)]
-                ran = subprocess.run(words, capture_output=True, text=True, timeout=60)
-            self.assertEqual((0, "tester_7E0 2 frames agree\n"), (ran.returncode, ran.stdout), ran.stderr)
+            self.assertEqual((0, "tester_7E0 2 frames agree\n", ""), judged("verify", found, lines))
+
+    def test_the_filling_of_long_messages(self) -> None:
+        flow = "7E8#300805AAAAAAAAAA"
+        classic = ["7E0#0322F18C", "7E8#100862F18C010203", "7E0#300000", "7E8#210405AAAAAAAAAA", "7E0#10082EF18C010203", flow]
+        by_fd = ["7E0##1023E00", "7E8##1027E00", "7E0##10322F18C", "7E8##1101262F18C41414141414141", "7E0##1300000", f"7E8##121{'41' * 8}AAAAAA"]
+        for asks in (classic, by_fd):
+            lines = frames(*((at * 2, it) for at, it in enumerate([*asks, "123#00"])))
+            found = learned_of(lines)
+            self.assertEqual((0, 0xAA, "tester_7E0 3 frames agree\n"), (found.status, found.tree()["pad_byte"], judged("verify", found, lines)[1]))
+        self.assertEqual((False, 12), (found.tree()["pad"], found.tree()["tx_dl"]))
+
+    def test_another_unit_beside_it(self) -> None:
+        """Its requests are none of the learned unit's, though its tester says TesterPresent, too."""
+        one, own = ["710#021003", "77A#065003003201F4"], ["710#0322F190", "77A#0462F19001"]
+        for request, response in (("7A0", "7A8"), ("7E0", "7E8")):
+            asks = [*one, *own, f"{request}#023E80", *[f"{request}#0322F190", f"{response}#0462F19002"] * 4, f"{request}#023E80", *own]
+            found = learned_of(frames(*((at * 100, it) for at, it in enumerate(asks))), "--pair", "710:77A")
+            self.assertEqual((0, "", {}, [{"id": 0xF190, "value": "01"}]), (found.status, found.told, rows_of(found), found.tree()["did"]))
+            self.assertNotIn("functional", found.text)
 
     def test_a_classic_pair_beside_one_of_can_fd(self) -> None:
         """They can't have one functional identifier."""

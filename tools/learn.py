@@ -2,7 +2,7 @@
 """Makes the setup by which the server answers as the unit in a recording did, and says of what it can't explain where it
 stands.
 
-    tools/learn.py [--pair REQUEST:RESPONSE[:fd][=NAME]].. [--interface NAME] [--varies] CAPTURE > unit.toml
+    tools/learn.py [--pair REQUEST:RESPONSE[:fd][=NAME]].. [--functional ID] [--interface NAME] [--varies] CAPTURE > unit.toml
 
 Example:
     tools/learn.py --pair 7E0:7E8=workshop --pair 7A0:7A8=end_of_line demo/other_unit.log > unit.toml
