@@ -9,7 +9,7 @@ from uds_names import IN_SESSION
 
 # limits of a setup
 MOST_VALUE, MOST_RESULT, MOST_SEED = 255, 32, 255
-GREATEST_CODE, GREATEST_LEVEL = 0xFFFFFE, 65
+GREATEST_CODE, GREATEST_LEVEL, GREATEST_SESSION = 0xFFFFFE, 65, 126
 LONGEST_TIME = 600_000
 MOST_DIDS, MOST_CODES, MOST_ROUTINES, MOST_LEVELS = 1024, 4096, 256, 4
 # how long a row is that lists a code: the code, and its status
@@ -37,6 +37,12 @@ def sub_of(it: Exchange) -> int:
 def is_done(it: Exchange) -> bool:
     """Whether the unit did what was asked, also where the request wanted no reply."""
     return is_positive(it) or (it.sent is None and len(it.request) > 1 and it.request[1] >= 0x80)
+
+
+def session_of(it: Exchange) -> int:
+    """The session that a request enters, of those that a setup can have; 0 for none."""
+    is_entered = it.request[0] == 0x10 and is_done(it) and 1 <= sub_of(it) <= GREATEST_SESSION
+    return sub_of(it) if is_entered else 0
 
 
 # ---- the session, as the unit's answers tell it
@@ -70,7 +76,7 @@ class Walk:
 
     def take(self, it: Exchange) -> None:
         sid, sub = it.request[0], sub_of(it)
-        if sid == 0x10 and is_done(it):
+        if session_of(it):
             self.enter(it.place, sub)
         elif sid == 0x11 and is_done(it):
             self.end()

@@ -8,7 +8,7 @@ from itertools import permutations
 from typing import Callable, Hashable, Iterable, Optional
 
 from learn_judge import Exchange
-from learn_model import Held, Walk, is_done, one_round, sub_of
+from learn_model import Held, Walk, is_done, one_round, session_of, sub_of
 from learn_setup import Row, Seen, Unit, setup_text
 from uds_names import SERVICES
 from uds_rules import items_of
@@ -140,8 +140,7 @@ def entered(cases: list[Case]) -> int:
         return 0
     if first.request[0] == 0x11:
         return 1
-    is_one = len({it.request for it in cases}) == 1
-    return sub_of(first) if first.request[0] == 0x10 and is_one and 1 <= sub_of(first) <= 126 else 0
+    return session_of(first) if len({it.request for it in cases}) == 1 else 0
 
 
 def row_of(unit: Unit, cases: list[Case], templates: list[str], held: Held) -> Row:
