@@ -872,6 +872,14 @@ class OfRecordings(unittest.TestCase):
         self.assertRegex(found.told, "learn: line [0-9]+: tester_7E0 was sent 6202000[01] to 220200, expected 6202000[01]\n")
         self.assertEqual({0x0100, 0x0200}, {it["id"] for it in found.tree()["did"]})
 
+    def test_a_session_that_a_setup_can_not_have(self) -> None:
+        """What depends on it has its answers in turn."""
+        for request, entry, sent in (("7E0", "0210FF", None), ("7DF", "0210FF", None), ("7E0", "02107F", "06507F003201F4")):
+            steps = [(0, "7E0#0228FF"), (3, "7E8#037F2811"), (50, f"{request}#{entry}"), *([(53, f"7E8#{sent}")] if sent else [])]
+            steps += [(100, "7E0#0228FF"), (103, "7E8#037F2812"), (200, "7E0#0228FF"), (203, "7E8#037F2812")]
+            found = learned_of(frames(*steps), "--pair", "7E0:7E8")
+            self.assertEqual((0, "", ["7F2811", "7F2812", "7F2812"]), (found.status, found.told, rows_of(found)["28FF"]), (request, entry))
+
     def test_pairs_of_29_bits(self) -> None:
         lines = frames((0, "18DA10F1#023E00"), (5, "18DAF110#027E00"), (9, "18DBFFF1#023E80"), (20, "7E0#023E00"), (25, "7E8#027E00"))
         wide = {"name": "shop", "extended": True, "request": 0x18DA10F1, "response": 0x18DAF110, "functional": 0x18DBFFF1}
@@ -901,6 +909,9 @@ class OfRecordings(unittest.TestCase):
         self.assertEqual((1, True), (status, "a name of 1 to 16 letters, digits or _" in told))
         status, told = self.told("", "--pair", "7E0:7E8=a", "--pair", "7E0:7E9=b")
         self.assertEqual((2, True), (status, "note: setup.toml: line " in told and "request of [[tester]] 2 is 0x7E0" in told), told)
+        found = learned_of("", "--pair", "7E0:7E8=a", "--pair", "7E0:7E9=b")
+        self.assertEqual((["a", "b"], True), ([it["name"] for it in found.tree()["tester"]], "setup.toml is the setup that is printed: " in found.told))
+        self.assertNotIn("comes first", learned(f"{TOP}/demo/setup.toml").told)
         for words, wanted in (
             (["--functional", "zz"], "zz is no identifier"),
             (["--functional", "20000000"], "20000000 is no identifier"),
@@ -910,6 +921,21 @@ class OfRecordings(unittest.TestCase):
             with redirect_stderr(err), self.assertRaises(SystemExit) as ended:
                 learn.main([*words, "none"])
             self.assertEqual((1, True), (ended.exception.code, wanted in err.getvalue()), err.getvalue())
+
+    def test_more_pairs_than_a_setup_has(self) -> None:
+        pairs = [(f"{0x700 + at:03X}", f"{0x780 + at:03X}") for at in range(9)]
+        told = self.told(frames(*((at * 1000 + back, it) for at, (own, other) in enumerate(pairs * 2) for back, it in ((0, f"{own}#023E00"), (3, f"{other}#027E00")))))[1]
+        taken = ", ".join(f"{own}:{other}" for own, other in pairs[:8])
+        self.assertIn("learn: the pair 708:788 is one too many: a setup has 8 testers\n", told)
+        self.assertIn(f"learn: 8 pairs are taken as testers of one unit: {taken}; --pair takes one of them\n", told)
+
+    def test_a_functional_identifier_that_no_tester_can_have(self) -> None:
+        narrow, wide = frames((0, "7E0#023E00"), (3, "7E8#027E00")), frames((0, "18DA10F1#023E00"), (3, "18DAF110#027E00"))
+        for identifier, bits, lines in (("800", 29, narrow), ("18DB33F1", 29, narrow), ("700", 11, wide)):
+            told = f"learn: --functional {identifier} has no effect: no tester here has identifiers of {bits} bits\n"
+            self.assertEqual((0, told), self.told(lines, "--functional", identifier))
+        for identifier, lines in (("700", narrow), ("18DBFFF1", wide), ("700", narrow + wide), ("18DBFFF1", narrow + wide)):
+            self.assertNotIn("functional", self.told(lines, "--functional", identifier)[1])
 
     def test_a_full_device(self) -> None:
         ran = subprocess.run([sys.executable, learn.__file__, *OPTIONS, f"{TOP}/demo/bus.log"], stdout=open("/dev/full", "wb"), stderr=subprocess.PIPE)
