@@ -25,9 +25,9 @@ import learn
 import learn_bus
 import live
 from learn_judge import Exchange
-from learn_model import Held, one_round, s3_of
+from learn_model import Held, one_round, s3_of, values_in
 from learn_rows import Case, pattern_of, shortened, template_of
-from learn_setup import Row, between, code_name, row_words
+from learn_setup import Did, Row, Seen, Unit, between, code_name, row_words
 from uds_link import LENGTHS, cut
 from uds_link import Setup as LinkSetup
 
@@ -604,7 +604,7 @@ class OfTheParts(unittest.TestCase):
 
     def test_templates(self) -> None:
         def template(*pairs: tuple[str, str]) -> Optional[str]:
-            return template_of([Case(Held(), [exchange(0, *it)]) for it in pairs])
+            return template_of([Case(Held(), it[1], [exchange(0, *it)]) for it in pairs])
 
         self.assertEqual("68$1", template(("280301", "6803"), ("280001", "6800")))
         self.assertEqual("6803", template(("280301", "6803")))
@@ -832,6 +832,63 @@ class OfRecordings(unittest.TestCase):
         self.assertEqual((0, {"22F40C": ["62F40C0B54", "62F40C0B70", "62F40C0B2E"]}), (found.status, rows_of(found)))
         varies = learned_of(frames(*reads), "--varies")
         self.assertEqual([{"id": 0xF40C, "value": "0B54", "varies": True}], varies.tree()["did"])
+
+    def varied(self, *answers: list[str]) -> Learned:
+        """What is learned with `--varies` of reads of F40C, or of F40C and F40D, each with the answers to it; another
+        recording, which has other values, agrees with it."""
+        request = "0522F40CF40D" if "F40D" in answers[0][0] else "0322F40C"
+
+        def read(other: str) -> str:
+            lines = []
+            for at, own in enumerate(answers):
+                lines.append((at * 200, f"7E0#{request}"))
+                lines += [(at * 200 + 3 + 60 * place, f"7E8#{len(it) // 2:02X}{it.replace('0B', other)}") for place, it in enumerate(own)]
+            return frames(*lines)
+
+        found = learned_of(read("0B"), "--varies")
+        self.assertEqual((0, ""), (found.status, found.told))
+        self.assertEqual(0, judged("compare", found, read("A7"))[0], found.text)
+        return found
+
+    def test_what_varies(self) -> None:
+        """The identifier is in the model, also where an answer was slow, where one was negative, or where it is read together
+        with others."""
+        one = [{"id": 0xF40C, "value": "0B54", "varies": True}]
+        slow = self.varied(["62F40C0B54"], ["7F2278", "62F40C0B55"], ["62F40C0B56"]).tree()
+        self.assertEqual((one, [{"request": "22F40C", "after_ms": 63}]), (slow["did"], slow["answer"]))
+        refused = self.varied(["62F40C0B54"], ["7F2222"], ["62F40C0B56"], ["62F40C0B57"])
+        self.assertEqual((one, {"22F40C": ["62F40C????", "7F2222", "62F40C????", "62F40C????"]}), (refused.tree()["did"], rows_of(refused)))
+        two = [{"id": number, "value": "0B", "varies": True} for number in (0xF40C, 0xF40D)]
+        both = self.varied(["62F40C0BF40D0B"], ["62F40C01F40D02"])
+        self.assertEqual((two, {}), (both.tree()["did"], rows_of(both)))
+        refused = self.varied(["62F40C0BF40D0B"], ["7F2222"], ["62F40C01F40D02"])
+        self.assertEqual((two, {"22F40CF40D": ["62F40C??F40D??", "7F2222", "62F40C??F40D??"]}), (refused.tree()["did"], rows_of(refused)))
+
+    def test_values_of_one_answer(self) -> None:
+        """Where the identifier behind it may stand in several places the lengths aren't known."""
+        def values(request: str, sent: str) -> list[tuple[int, str]]:
+            unit = Unit([], None, learn_bus.Sending(), dids={0xF190: Did(b"AB", b"AB", Seen())})
+            return [(number, value.hex().upper()) for number, value in values_in(unit, exchange(0, request, sent))]
+
+        self.assertEqual([(0xF40C, "01"), (0xF40D, "0203")], values("22F40CF40D", "62F40C01F40D0203"))
+        self.assertEqual([(0xF40C, "F4"), (0xF190, "0102"), (0xF40D, "05")], values("22F40CF190F40D", "62F40CF4F1900102F40D05"))
+        self.assertEqual([(0xF40C, "01"), (0xF40C, "01")], values("22F40CF40C", "62F40C01F40C01"))
+        self.assertEqual([(0xF40C, "0102")], values("22F40CF40D", "62F40C0102"))
+        for request, sent in (("22F40CF40D", "62F40C01F40D02F40D03"), ("22F40CF40D", "62F40DF40C"), ("22F40CF40D", "62F40CF40D"), ("22F40C", "62F40C"), ("22F4", "62F4"), ("22F40C", "7F2231")):
+            self.assertEqual([], values(request, sent), sent)
+
+    def test_a_value_that_changes_too_often(self) -> None:
+        """It has no row where there are more reads than templates."""
+        if OPTIONS[1:] != [learn.PROGRAM]:
+            return
+        chance = random.Random(1)
+        reads = [(20 * at + back, it) for at in range(4097) for back, it in ((0, "7E0#0322F40C"), (3, f"7E8#0562F40C{chance.randrange(65536):04X}"))]
+        most, more = learned_of(frames(*reads[:-2])), learned_of(frames(*reads))
+        self.assertEqual((0, 4096), (most.status, len(rows_of(most)["22F40C"])))
+        self.assertEqual((8, {}, 1), (more.status, rows_of(more), len(more.tree()["did"])))
+        self.assertIn("learn: with --varies the values that change aren't compared\n", more.told)
+        varies = learned_of(frames(*reads), "--varies")
+        self.assertEqual((0, {}), (varies.status, rows_of(varies)))
 
     def test_a_slow_answer(self) -> None:
         found = learned_of(frames((0, "7E0#0414FFFFFF"), (40, "7E8#037F1478"), (700, "7E8#0154")))
