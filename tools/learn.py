@@ -16,7 +16,7 @@ their values come one after the other, round and round.
 The judge is `compare` of the program that ./uds_play starts: a setup is made, compared with the recording, and what differs
 becomes rows of answers, until nothing differs or nothing gets better. The status is 0 where nothing differs; 8 where
 something does, which is told on standard error, exchange by exchange; 9 where nothing was compared; else that of the
-program's fault. No part of what is proved."""
+program's fault: with 2 the setup that it doesn't take is printed. No part of what is proved."""
 import argparse
 import os
 import re
