@@ -72,6 +72,14 @@ TEXTS = [
      {"A": [1, 0, 0, 1], "B": [0, 0, 0, 0], "compare": [1, 0, 1, 0]}),
     ("a run that ended by a fault", AGREES + BUSY, 3, {"A": [1, 0, 0, 0], "B": [1, 1, 0, 0], "compare": [1, 0, 1, 0]}),
     ("no text", "", 3, {"compare": [1, 0, 1, 0]}),
+    ("a tester's line is missing", AGREES + BUSY + "A 1 exchanges, 0 differ\n", 3, {"A": [1, 0, 0, 0], "B": [1, 1, 0, 0], "compare": [1, 0, 1, 0]}),
+    ("it is missing of what agrees", AGREES + BUSY + "B 1 exchanges, 1 differ\n", 3, {"B": [1, 1, 0, 0], "A": [1, 0, 0, 0], "compare": [1, 0, 1, 0]}),
+    ("more differ than are counted", HIDDEN + "A 2 exchanges, 0 differ\n", 3, {"A": [1, 1, 0, 0], "compare": [1, 0, 1, 0]}),
+    ("fewer differ than are counted", HIDDEN + "A 2 exchanges, 2 differ\n", 3, {"A": [1, 1, 0, 0], "compare": [1, 0, 1, 0]}),
+    ("an exchange is missing", AGREES + HIDDEN + "A 3 exchanges, 1 differ\n", 3, {"A": [2, 1, 0, 0], "compare": [1, 0, 1, 0]}),
+    ("those of one tester are missing", AGREES + "A 1 exchanges, 0 differ\nB 2 exchanges, 0 differ\n", 3, {"A": [1, 0, 0, 0], "B": [0, 0, 0, 0], "compare": [1, 0, 1, 0]}),
+    ("fewer are counted than differ", HIDDEN + "A 0 exchanges, 1 differ\n", 3, {"A": [1, 1, 0, 0], "compare": [1, 0, 1, 0]}),
+    ("a line too many", AGREES + HIDDEN + "A 1 exchanges, 1 differ\n", 3, {"A": [2, 1, 0, 0], "compare": [1, 0, 1, 0]}),
     ("another text", AGREES + 'uds_play: <"&> \x01\u20ac\nA 1 exchanges, 0 differ\n', 3, {"A": [1, 0, 0, 0], "compare": [1, 0, 1, 0]}),
 ]
 

@@ -25,9 +25,9 @@ import learn
 import learn_bus
 import live
 from learn_judge import Exchange
-from learn_model import Held, one_round, s3_of
+from learn_model import Held, one_round, s3_of, values_in
 from learn_rows import Case, pattern_of, shortened, template_of
-from learn_setup import Row, between, code_name, row_words
+from learn_setup import Did, Row, Seen, Unit, between, code_name, row_words
 from uds_link import LENGTHS, cut
 from uds_link import Setup as LinkSetup
 
@@ -492,11 +492,42 @@ class OfTheBus(unittest.TestCase):
         found = learn_bus.look(self.lines("7E0#023E00", "7E8#027E00", "7DF#023E80"))
         self.assertEqual(0x7DF, learn_bus.functional_of(found, learn_bus.pairs_of(found)))
 
+    def test_what_asks_another_unit_is_no_functional_identifier(self) -> None:
+        one = ["710#021003", "77A#065003003201F4", "710#0322F190", "77A#0462F19001"]
+        for other, its, is_answered, wanted in (
+            ("7A0", "7A8", True, None), ("7E0", "7E8", True, None), ("18DA11F1", "18DAF111", True, None), ("7A0", "77A", True, 0x7A0),
+            ("7A0", "7A8", False, 0x7A0), ("7E1", "7E9", False, None), ("7DF", "7E9", True, 0x7DF), ("18DA11F1", "18DAF111", False, None),
+        ):
+            asks = [f"{other}#023E80", *([f"{other}#0322F190", f"{its}#0462F19002"] * 4 if is_answered else []), f"{other}#023E80"]
+            found = learn_bus.look(self.lines(*one, *asks, *one[2:]))
+            pair, is_wide = learn_bus.Pair(0x710, 0x77A), len(other) == 8
+            pairs = [learn_bus.Pair(0x18DA10F1, 0x18DAF110, True) if is_wide else pair]
+            self.assertEqual(wanted, learn_bus.functional_of(found, pairs, is_wide), (other, its, is_answered))
+
     def test_how_the_unit_sends(self) -> None:
         pair = [learn_bus.Pair(0x7E0, 0x7E8)]
         found = learn_bus.sending_of(self.lines("7E0#1014", "7E8#300805AAAAAAAAAA", "7E0#21", "7E8#037F2E31AAAAAAAA"), pair)
         self.assertEqual((0xAA, 8, 5, 20, 20), (found.pad, found.block_size, found.st_min, found.longest, found.n_cr))
         self.assertIsNone(learn_bus.sending_of(self.lines("7E8#037F2E31", "7E8#027E00"), pair).pad)
+
+    def test_filling(self) -> None:
+        """It is seen of SingleFrames, of FlowControl, and of the last Consecutive frame."""
+        pair, first = [learn_bus.Pair(0x7E0, 0x7E8)], "7E8#100862F18C010203"
+        for pad, *frames in (
+            (0xAA, "7E8#300805AAAAAAAAAA"), (None, "7E8#300805"), (0xAA, first, "7E8#210405AAAAAAAAAA"), (None, first, "7E8#210405"),
+            (0xCC, "7E8#100D62F18C010203", "7E8#2104050607080910"), (0xCC, "7E8#101462F18C010203", "7E8#2104050607080910"),
+            (0xCC, first, "7E8#220405AAAAAAAAAA"), (0xCC, "7E8#210405AAAAAAAAAA"), (0xCC, "7E8#0000000000000000"), (0xCC, "7E8#")
+        ):
+            self.assertEqual(pad, learn_bus.sending_of(self.lines(*frames), pair).pad, frames)
+
+    def test_filling_by_can_fd(self) -> None:
+        pair, first = [learn_bus.Pair(0x7E0, 0x7E8, is_fd=True)], f"7E8##11012{'41' * 10}"
+        for pad, fill, *frames in (
+            (0x55, 0x55, first, f"7E8##121{'41' * 8}555555"), (None, 0x55, "7E8##1023E00", first, f"7E8##121{'41' * 8}555555"),
+            (0xAA, None, f"7E8##1100F{'41' * 10}", f"7E8##121{'41' * 5}AAAA"), (None, None, f"7E8##1100F{'41' * 10}", f"7E8##121{'41' * 5}"),
+        ):
+            found = learn_bus.sending_of(self.lines(*frames), pair)
+            self.assertEqual((pad, fill, 12), (found.pad, found.fill, found.tx_dl), frames)
 
     def test_pairs_of_can_fd(self) -> None:
         frames = ["7E0##10322F190", f"7E8##1001462F190{'41' * 17}CCCC", "7E1#023E00", "7E9#027E00", "7DF##1023E80"]
@@ -573,7 +604,7 @@ class OfTheParts(unittest.TestCase):
 
     def test_templates(self) -> None:
         def template(*pairs: tuple[str, str]) -> Optional[str]:
-            return template_of([Case(Held(), [exchange(0, *it)]) for it in pairs])
+            return template_of([Case(Held(), it[1], [exchange(0, *it)]) for it in pairs])
 
         self.assertEqual("68$1", template(("280301", "6803"), ("280001", "6800")))
         self.assertEqual("6803", template(("280301", "6803")))
@@ -647,6 +678,14 @@ def frames(*pairs: tuple[int, str]) -> str:
     return "".join(f"({100 + ms // 1000:010d}.{ms % 1000:03d}000) can0 {it}\n" for ms, it in pairs)
 
 
+def judged(command: str, it: Learned, lines: str) -> tuple[int, str, str]:
+    """What a command of the program says of a recording by a learned setup: the status, standard output and error."""
+    with tempfile.TemporaryDirectory() as room:
+        words = [OPTIONS[1], command, put(f"{room}/unit.toml", it.text), put(f"{room}/unit.log", lines)]
+        ran = subprocess.run(words, capture_output=True, text=True, timeout=60)
+    return ran.returncode, ran.stdout, ran.stderr
+
+
 def rows_of(it: Learned) -> dict[str, list[str]]:
     return {row["request"]: row.get("reply") for row in it.tree().get("answer", [])}
 
@@ -682,10 +721,26 @@ class OfRecordings(unittest.TestCase):
             found = learned_of(lines)
             self.assertEqual((0, 64), (found.status, found.tree()["tx_dl"]))
             self.assertIn("tx_dl = 64  # no FirstFrame told it\n", found.text)
-            with tempfile.TemporaryDirectory() as room:
-                words = [OPTIONS[1], "verify", put(f"{room}/unit.toml", found.text), put(f"{room}/unit.log", lines)]
-                ran = subprocess.run(words, capture_output=True, text=True, timeout=60)
-            self.assertEqual((0, "tester_7E0 2 frames agree\n"), (ran.returncode, ran.stdout), ran.stderr)
+            self.assertEqual((0, "tester_7E0 2 frames agree\n", ""), judged("verify", found, lines))
+
+    def test_the_filling_of_long_messages(self) -> None:
+        flow = "7E8#300805AAAAAAAAAA"
+        classic = ["7E0#0322F18C", "7E8#100862F18C010203", "7E0#300000", "7E8#210405AAAAAAAAAA", "7E0#10082EF18C010203", flow]
+        by_fd = ["7E0##1023E00", "7E8##1027E00", "7E0##10322F18C", "7E8##1101262F18C41414141414141", "7E0##1300000", f"7E8##121{'41' * 8}AAAAAA"]
+        for asks in (classic, by_fd):
+            lines = frames(*((at * 2, it) for at, it in enumerate([*asks, "123#00"])))
+            found = learned_of(lines)
+            self.assertEqual((0, 0xAA, "tester_7E0 3 frames agree\n"), (found.status, found.tree()["pad_byte"], judged("verify", found, lines)[1]))
+        self.assertEqual((False, 12), (found.tree()["pad"], found.tree()["tx_dl"]))
+
+    def test_another_unit_beside_it(self) -> None:
+        """Its requests are none of the learned unit's, though its tester says TesterPresent, too."""
+        one, own = ["710#021003", "77A#065003003201F4"], ["710#0322F190", "77A#0462F19001"]
+        for request, response in (("7A0", "7A8"), ("7E0", "7E8")):
+            asks = [*one, *own, f"{request}#023E80", *[f"{request}#0322F190", f"{response}#0462F19002"] * 4, f"{request}#023E80", *own]
+            found = learned_of(frames(*((at * 100, it) for at, it in enumerate(asks))), "--pair", "710:77A")
+            self.assertEqual((0, "", {}, [{"id": 0xF190, "value": "01"}]), (found.status, found.told, rows_of(found), found.tree()["did"]))
+            self.assertNotIn("functional", found.text)
 
     def test_a_classic_pair_beside_one_of_can_fd(self) -> None:
         """They can't have one functional identifier."""
@@ -778,6 +833,63 @@ class OfRecordings(unittest.TestCase):
         varies = learned_of(frames(*reads), "--varies")
         self.assertEqual([{"id": 0xF40C, "value": "0B54", "varies": True}], varies.tree()["did"])
 
+    def varied(self, *answers: list[str]) -> Learned:
+        """What is learned with `--varies` of reads of F40C, or of F40C and F40D, each with the answers to it; another
+        recording, which has other values, agrees with it."""
+        request = "0522F40CF40D" if "F40D" in answers[0][0] else "0322F40C"
+
+        def read(other: str) -> str:
+            lines = []
+            for at, own in enumerate(answers):
+                lines.append((at * 200, f"7E0#{request}"))
+                lines += [(at * 200 + 3 + 60 * place, f"7E8#{len(it) // 2:02X}{it.replace('0B', other)}") for place, it in enumerate(own)]
+            return frames(*lines)
+
+        found = learned_of(read("0B"), "--varies")
+        self.assertEqual((0, ""), (found.status, found.told))
+        self.assertEqual(0, judged("compare", found, read("A7"))[0], found.text)
+        return found
+
+    def test_what_varies(self) -> None:
+        """The identifier is in the model, also where an answer was slow, where one was negative, or where it is read together
+        with others."""
+        one = [{"id": 0xF40C, "value": "0B54", "varies": True}]
+        slow = self.varied(["62F40C0B54"], ["7F2278", "62F40C0B55"], ["62F40C0B56"]).tree()
+        self.assertEqual((one, [{"request": "22F40C", "after_ms": 63}]), (slow["did"], slow["answer"]))
+        refused = self.varied(["62F40C0B54"], ["7F2222"], ["62F40C0B56"], ["62F40C0B57"])
+        self.assertEqual((one, {"22F40C": ["62F40C????", "7F2222", "62F40C????", "62F40C????"]}), (refused.tree()["did"], rows_of(refused)))
+        two = [{"id": number, "value": "0B", "varies": True} for number in (0xF40C, 0xF40D)]
+        both = self.varied(["62F40C0BF40D0B"], ["62F40C01F40D02"])
+        self.assertEqual((two, {}), (both.tree()["did"], rows_of(both)))
+        refused = self.varied(["62F40C0BF40D0B"], ["7F2222"], ["62F40C01F40D02"])
+        self.assertEqual((two, {"22F40CF40D": ["62F40C??F40D??", "7F2222", "62F40C??F40D??"]}), (refused.tree()["did"], rows_of(refused)))
+
+    def test_values_of_one_answer(self) -> None:
+        """Where the identifier behind it may stand in several places the lengths aren't known."""
+        def values(request: str, sent: str) -> list[tuple[int, str]]:
+            unit = Unit([], None, learn_bus.Sending(), dids={0xF190: Did(b"AB", b"AB", Seen())})
+            return [(number, value.hex().upper()) for number, value in values_in(unit, exchange(0, request, sent))]
+
+        self.assertEqual([(0xF40C, "01"), (0xF40D, "0203")], values("22F40CF40D", "62F40C01F40D0203"))
+        self.assertEqual([(0xF40C, "F4"), (0xF190, "0102"), (0xF40D, "05")], values("22F40CF190F40D", "62F40CF4F1900102F40D05"))
+        self.assertEqual([(0xF40C, "01"), (0xF40C, "01")], values("22F40CF40C", "62F40C01F40C01"))
+        self.assertEqual([(0xF40C, "0102")], values("22F40CF40D", "62F40C0102"))
+        for request, sent in (("22F40CF40D", "62F40C01F40D02F40D03"), ("22F40CF40D", "62F40DF40C"), ("22F40CF40D", "62F40CF40D"), ("22F40C", "62F40C"), ("22F4", "62F4"), ("22F40C", "7F2231")):
+            self.assertEqual([], values(request, sent), sent)
+
+    def test_a_value_that_changes_too_often(self) -> None:
+        """It has no row where there are more reads than templates."""
+        if OPTIONS[1:] != [learn.PROGRAM]:
+            return
+        chance = random.Random(1)
+        reads = [(20 * at + back, it) for at in range(4097) for back, it in ((0, "7E0#0322F40C"), (3, f"7E8#0562F40C{chance.randrange(65536):04X}"))]
+        most, more = learned_of(frames(*reads[:-2])), learned_of(frames(*reads))
+        self.assertEqual((0, 4096), (most.status, len(rows_of(most)["22F40C"])))
+        self.assertEqual((8, {}, 1), (more.status, rows_of(more), len(more.tree()["did"])))
+        self.assertIn("learn: with --varies the values that change aren't compared\n", more.told)
+        varies = learned_of(frames(*reads), "--varies")
+        self.assertEqual((0, {}), (varies.status, rows_of(varies)))
+
     def test_a_slow_answer(self) -> None:
         found = learned_of(frames((0, "7E0#0414FFFFFF"), (40, "7E8#037F1478"), (700, "7E8#0154")))
         self.assertEqual([{"request": "14FFFFFF", "after_ms": 700}], found.tree()["answer"])
@@ -817,6 +929,14 @@ class OfRecordings(unittest.TestCase):
         self.assertRegex(found.told, "learn: line [0-9]+: tester_7E0 was sent 6202000[01] to 220200, expected 6202000[01]\n")
         self.assertEqual({0x0100, 0x0200}, {it["id"] for it in found.tree()["did"]})
 
+    def test_a_session_that_a_setup_can_not_have(self) -> None:
+        """What depends on it has its answers in turn."""
+        for request, entry, sent in (("7E0", "0210FF", None), ("7DF", "0210FF", None), ("7E0", "02107F", "06507F003201F4")):
+            steps = [(0, "7E0#0228FF"), (3, "7E8#037F2811"), (50, f"{request}#{entry}"), *([(53, f"7E8#{sent}")] if sent else [])]
+            steps += [(100, "7E0#0228FF"), (103, "7E8#037F2812"), (200, "7E0#0228FF"), (203, "7E8#037F2812")]
+            found = learned_of(frames(*steps), "--pair", "7E0:7E8")
+            self.assertEqual((0, "", ["7F2811", "7F2812", "7F2812"]), (found.status, found.told, rows_of(found)["28FF"]), (request, entry))
+
     def test_pairs_of_29_bits(self) -> None:
         lines = frames((0, "18DA10F1#023E00"), (5, "18DAF110#027E00"), (9, "18DBFFF1#023E80"), (20, "7E0#023E00"), (25, "7E8#027E00"))
         wide = {"name": "shop", "extended": True, "request": 0x18DA10F1, "response": 0x18DAF110, "functional": 0x18DBFFF1}
@@ -846,6 +966,9 @@ class OfRecordings(unittest.TestCase):
         self.assertEqual((1, True), (status, "a name of 1 to 16 letters, digits or _" in told))
         status, told = self.told("", "--pair", "7E0:7E8=a", "--pair", "7E0:7E9=b")
         self.assertEqual((2, True), (status, "note: setup.toml: line " in told and "request of [[tester]] 2 is 0x7E0" in told), told)
+        found = learned_of("", "--pair", "7E0:7E8=a", "--pair", "7E0:7E9=b")
+        self.assertEqual((["a", "b"], True), ([it["name"] for it in found.tree()["tester"]], "setup.toml is the setup that is printed: " in found.told))
+        self.assertNotIn("comes first", learned(f"{TOP}/demo/setup.toml").told)
         for words, wanted in (
             (["--functional", "zz"], "zz is no identifier"),
             (["--functional", "20000000"], "20000000 is no identifier"),
@@ -855,6 +978,21 @@ class OfRecordings(unittest.TestCase):
             with redirect_stderr(err), self.assertRaises(SystemExit) as ended:
                 learn.main([*words, "none"])
             self.assertEqual((1, True), (ended.exception.code, wanted in err.getvalue()), err.getvalue())
+
+    def test_more_pairs_than_a_setup_has(self) -> None:
+        pairs = [(f"{0x700 + at:03X}", f"{0x780 + at:03X}") for at in range(9)]
+        told = self.told(frames(*((at * 1000 + back, it) for at, (own, other) in enumerate(pairs * 2) for back, it in ((0, f"{own}#023E00"), (3, f"{other}#027E00")))))[1]
+        taken = ", ".join(f"{own}:{other}" for own, other in pairs[:8])
+        self.assertIn("learn: the pair 708:788 is one too many: a setup has 8 testers\n", told)
+        self.assertIn(f"learn: 8 pairs are taken as testers of one unit: {taken}; --pair takes one of them\n", told)
+
+    def test_a_functional_identifier_that_no_tester_can_have(self) -> None:
+        narrow, wide = frames((0, "7E0#023E00"), (3, "7E8#027E00")), frames((0, "18DA10F1#023E00"), (3, "18DAF110#027E00"))
+        for identifier, bits, lines in (("800", 29, narrow), ("18DB33F1", 29, narrow), ("700", 11, wide)):
+            told = f"learn: --functional {identifier} has no effect: no tester here has identifiers of {bits} bits\n"
+            self.assertEqual((0, told), self.told(lines, "--functional", identifier))
+        for identifier, lines in (("700", narrow), ("18DBFFF1", wide), ("700", narrow + wide), ("18DBFFF1", narrow + wide)):
+            self.assertNotIn("functional", self.told(lines, "--functional", identifier)[1])
 
     def test_a_full_device(self) -> None:
         ran = subprocess.run([sys.executable, learn.__file__, *OPTIONS, f"{TOP}/demo/bus.log"], stdout=open("/dev/full", "wb"), stderr=subprocess.PIPE)

@@ -5,8 +5,9 @@ the difference as the failure's text. It reads standard input and writes standar
     ./uds_play compare SETUP CAPTURE | tools/junit.py > report.xml
 
 The status is the one that the text tells: 0 where nothing differs, 8 where something does, 9 where nothing was compared,
-3 where the testers' lines are missing, for then the run ended by a fault. With 9 and 3 the report has an error, so it isn't
-green either. The status is 7 where the report couldn't be written, and 1 where a word stands behind the tool's name.
+3 where the testers' lines are missing, for then the run ended by a fault, or where they don't fit the exchanges. With 9 and 3
+the report has an error, so it isn't green either. The status is 7 where the report couldn't be written, and 1 where a word
+stands behind the tool's name.
 
 An exchange that is ignored is a test case that was skipped. A test case is called as its request, the second of the same
 ` (2)` behind it, so a build server follows it from one recording of a sequence to the next: of the whole text, for with
@@ -108,8 +109,10 @@ def errors_of(report: Report) -> list[str]:
     if report.stray:
         number, text = report.stray
         return [f"line {number} of standard input is none of compare's: {text[:60]}"]
-    if report.status() == FAULT:
+    if not report.counts:
         return ["the run ended by a fault: the testers' lines are missing"]
+    if report.status() == FAULT:
+        return ["the testers' lines don't fit the exchanges: a part of the text is missing"]
     return [NOTHING] if report.status() == NOT_COMPARED else []
 
 

@@ -2,7 +2,7 @@
 """Makes the setup by which the server answers as the unit in a recording did, and says of what it can't explain where it
 stands.
 
-    tools/learn.py [--pair REQUEST:RESPONSE[:fd][=NAME]].. [--interface NAME] [--varies] CAPTURE > unit.toml
+    tools/learn.py [--pair REQUEST:RESPONSE[:fd][=NAME]].. [--functional ID] [--interface NAME] [--varies] CAPTURE > unit.toml
 
 Example:
     tools/learn.py --pair 7E0:7E8=workshop --pair 7A0:7A8=end_of_line demo/other_unit.log > unit.toml
@@ -16,7 +16,7 @@ their values come one after the other, round and round.
 The judge is `compare` of the program that ./uds_play starts: a setup is made, compared with the recording, and what differs
 becomes rows of answers, until nothing differs or nothing gets better. The status is 0 where nothing differs; 8 where
 something does, which is told on standard error, exchange by exchange; 9 where nothing was compared; else that of the
-program's fault. No part of what is proved."""
+program's fault: with 2 the setup that it doesn't take is printed. No part of what is proved."""
 import argparse
 import os
 import re
@@ -31,7 +31,7 @@ from typing import Iterable, Iterator, NoReturn, Optional
 sys.dont_write_bytecode = True
 sys.path.append(os.path.join(os.path.dirname(os.path.abspath(__file__)), "parts"))
 from learn_bus import FUNCTIONAL, FUNCTIONAL_29, MOST_TESTERS, Broken, Pair, Sending, functional_of, look, pair_of, pairs_of, sending_of
-from learn_judge import AGREES, DIFFERS, NOTHING, Exchange, Judge, Program, Refused, Verdict
+from learn_judge import AGREES, BAD_SETUP, DIFFERS, NOTHING, Exchange, Judge, Program, Refused, Verdict
 from learn_model import learn_model
 from learn_rows import MOST_BYTES, Plan
 from learn_setup import Unit, is_apart, setup_text, why_apart
@@ -155,14 +155,15 @@ def other_way(pair: Pair) -> tuple[str, str]:
 def testers_of(given: list[Pair], found: list[Pair]) -> list[Pair]:
     """The pairs that can be learned, of those given or else of those found; tells of the others."""
     own = given or found
+    taken = own[:MOST_TESTERS]
     for it in given:
         if other_way(it) in map(Pair.texts, found):
             say(f"--pair {it.shown()}: the recording asks by {it.texts()[1]} and answers by {it.texts()[0]}; are they exchanged?")
     for it in own[MOST_TESTERS:]:
         say(f"the pair {it.shown()} is one too many: a setup has {MOST_TESTERS} testers")
-    if len(own) > 1 and not given:
-        say(f"{len(own)} pairs are taken as testers of one unit: {', '.join(it.shown() for it in own)}; --pair takes one of them")
-    return named(own[:MOST_TESTERS])
+    if len(taken) > 1 and not given:
+        say(f"{len(taken)} pairs are taken as testers of one unit: {', '.join(it.shown() for it in taken)}; --pair takes one of them")
+    return named(taken)
 
 
 # ---- rounds
@@ -236,6 +237,29 @@ def tell_broken(broken: Broken) -> None:
         say(f"{broken.count} messages of the unit break off, the first begun at {at}: {why}")
 
 
+def refused(fault: Refused) -> int:
+    """Tells what the program refuses, and prints a setup that it doesn't take; the status."""
+    for line in fault.told.splitlines():
+        say(line)
+    if fault.status == BAD_SETUP:
+        say("setup.toml is the setup that is printed: the program doesn't take it")
+        return fault.status if is_printed(fault.setup) else 7
+    return fault.status
+
+
+def is_printed(setup: str) -> bool:
+    """Prints a setup; whether it could be written."""
+    try:
+        sys.stdout.write(setup)
+        sys.stdout.flush()
+    except OSError as fault:
+        say(f"cannot write: {fault.strerror}")
+        # (what is left isn't tried again at the exit)
+        sys.stdout = None
+        return False
+    return True
+
+
 # ---- the tool
 
 
@@ -260,7 +284,10 @@ def unit_of(path: str, given: list[Pair], words: argparse.Namespace, progress: P
         raise NoTester
     narrow, wide = functional_of(sight, pairs), functional_of(sight, pairs, True)
     if functional is not None:
-        narrow, wide = (functional, wide) if functional <= MOST_OF_11_BITS else (narrow, functional)
+        is_wide = functional > MOST_OF_11_BITS
+        narrow, wide = (narrow, functional) if is_wide else (functional, wide)
+        if all(it.is_extended != is_wide for it in pairs):
+            say(f"--functional {functional:X} has no effect: no tester here has identifiers of {29 if is_wide else 11} bits")
     sending = sending_of(progress.through(path, 0.12, 0.2, "how they send"), pairs, interface)
     is_all_fd = f"{narrow or FUNCTIONAL:03X}" in sight.by_fd, f"{wide or FUNCTIONAL_29:08X}" in sight.by_fd
     return Unit(pairs, narrow, sending, varies=words.varies, functional_29=wide, is_all_fd=is_all_fd)
@@ -334,18 +361,10 @@ def main(given: Optional[list[str]] = None) -> int:
             say("this form of recording wants python-can (Debian's python3-can)")
             return 7
         except Refused as fault:
-            for line in fault.told.splitlines():
-                say(line)
-            return fault.status
+            return refused(fault)
         finally:
             progress.end()
-    try:
-        sys.stdout.write(text)
-        sys.stdout.flush()
-    except OSError as fault:
-        say(f"cannot write: {fault.strerror}")
-        # (what is left isn't tried again at the exit)
-        sys.stdout = None
+    if not is_printed(text):
         return 7
     tell(verdict, unit, left_out)
     tell_broken(unit.sending.broken)

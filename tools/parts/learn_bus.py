@@ -192,9 +192,18 @@ def is_functional(sight: Sight, request: str, taken: set[str]) -> bool:
     return any(it in taken for it, count in answers.items() if count == most) or sum(2 * it > most for it in answers.values()) > 1
 
 
+def is_of_another(sight: Sight, request: str, responses: set[str]) -> bool:
+    """Whether an identifier asks one unit, which isn't the one with these response identifiers: by ISO 15765-4, or since
+    another response identifier alone answers it."""
+    if request.startswith("18DA") or 0x7E0 <= int(request, 16) <= 0x7E7:
+        return True
+    return any(asking == request for asking, _ in sight.answered) and not is_functional(sight, request, responses)
+
+
 def functional_of(sight: Sight, pairs: list[Pair], is_extended: bool = False) -> Optional[int]:
-    """The functional identifier of 11 bits, or of 29: of those that are of no pair the one that says TesterPresent to all,
-    or that the unit answers, most often; the usual one first. None where no tester of this kind has one."""
+    """The functional identifier of 11 bits, or of 29: of those that are of no pair, nor another unit's, the one that says
+    TesterPresent to all, or that the unit answers, most often; the usual one first. None where no tester of this kind has
+    one."""
     own = {it for pair in pairs for it in pair.texts()}
     responses = {it.texts()[1] for it in pairs if it.is_extended == is_extended}
     usual = USUAL_FUNCTIONAL[is_extended]
@@ -202,9 +211,10 @@ def functional_of(sight: Sight, pairs: list[Pair], is_extended: bool = False) ->
     for (request, response), many in sight.answered.items():
         if request not in own and response in responses and len(request) == len(usual) and sight.asked[request] <= 2 * many:
             count[request] += many
-    if usual in count or not count:
-        return int(usual, 16) if usual in count else None
-    return int(max(count, key=lambda it: (count[it], it)), 16)
+    left = [it for it in count if not is_of_another(sight, it, responses)]
+    if usual in left or not left:
+        return int(usual, 16) if usual in left else None
+    return int(max(left, key=lambda it: (count[it], it)), 16)
 
 
 # ---- how they send
@@ -238,6 +248,12 @@ class Broken:
             self.open[identifier] = now, length_of(data) - size + (2 if int(data[1:4], 16) else 6), 1, False
         self.last[identifier] = kind
 
+    def ended_by(self, identifier: str, data: str) -> int:
+        """How many bytes of its message a frame has that ends it; 0 of one that ends none."""
+        _, wanted, number, _ = self.open.get(identifier, (0, 0, 0, False))
+        is_next = data[:1] == "2" and int(data[1], 16) == number
+        return wanted if is_next and wanted < len(data) // 2 else 0
+
     def let(self, identifier: str, data: str) -> None:
         """FlowControl of the tester that has the answers of this identifier."""
         if identifier in self.open:
@@ -267,7 +283,7 @@ class Sending:
 
 def sending_of(blocks: Iterable[str], pairs: list[Pair], interface: Optional[str] = None) -> Sending:
     """How the frames of these pairs are sent."""
-    found, fills, flows, fd = Sending(), Counter(), Counter(), FdFrames()
+    found, flows, filling, fd = Sending(), Counter(), Filling(), FdFrames()
     requests = dict(it.texts() for it in pairs)
     responses, by_fd = set(requests.values()), {text for it in pairs if it.is_fd for text in it.texts()}
     last, waits = {}, {}
@@ -278,8 +294,8 @@ def sending_of(blocks: Iterable[str], pairs: list[Pair], interface: Optional[str
         if kind == "3" and identifier in requests:
             found.broken.let(requests[identifier], data)
         if identifier in responses:
+            filling.take(data, found.broken.ended_by(identifier, data))
             found.broken.take(now, identifier, data)
-            count_filling(fills, data)
             if flags:
                 fd.take(data, flags)
             if kind == "3" and len(data) >= 6:
@@ -294,29 +310,60 @@ def sending_of(blocks: Iterable[str], pairs: list[Pair], interface: Optional[str
         elif kind == "2" and identifier in last:
             found.n_cr = max(found.n_cr, min(now - last[identifier], 60000))
             last[identifier] = now
-    settle(found, fills, flows)
+    settle(found, flows)
+    filling.settle(found)
     fd.settle(found)
-    if not fills and found.fill is not None:
-        # (where no short frame tells how these are padded)
-        found.pad = found.fill
     return found
+
+
+@dataclass
+class Filling:
+    """How the unit's frames were filled: those of up to 8 bytes, by the byte or None, and longer ones, which CAN FD may have
+    to fill."""
+
+    short: Counter = field(default_factory=Counter)
+    long: Counter = field(default_factory=Counter)
+
+    def take(self, data: str, ending: int) -> None:
+        """A frame, with so many bytes of its message where it is the last Consecutive frame."""
+        size, used = len(data) // 2, used_of(data, ending)
+        if 0 < used == size < 8:
+            self.short[None] += 1
+        elif 0 < used < size == 8:
+            self.short[int(data[-2:], 16)] += 1
+        elif 0 < used < size and size > 8:
+            self.long[int(data[-2:], 16)] += 1
+
+    def settle(self, found: Sending) -> None:
+        """What was seen most often counts; where no short frame tells how these are padded, the long ones do."""
+        found.fill = self.long.most_common(1)[0][0] if self.long else None
+        if self.short:
+            found.pad = self.short.most_common(1)[0][0]
+        elif found.fill is not None:
+            found.pad = found.fill
+
+
+def used_of(data: str, ending: int) -> int:
+    """How many bytes of a SingleFrame, of FlowControl or of the last Consecutive frame aren't filling; 0 of another frame."""
+    if data[:2] == "00":
+        return 2 + int(data[2:4], 16) if len(data) > 16 else 0
+    if data[:1] == "0":
+        return 1 + int(data[1], 16) if len(data) <= 16 else 0
+    return 3 if data[:1] == "3" else 1 + ending if ending else 0
 
 
 @dataclass
 class FdFrames:
     """What was seen of the unit's frames of CAN FD: the lengths of FirstFrames, for a SingleFrame is as short as it can be,
-    the flags, and what fills SingleFrames of more than 8 bytes."""
+    and the flags."""
 
     lengths: Counter = field(default_factory=Counter)
     flags: Counter = field(default_factory=Counter)
-    fills: Counter = field(default_factory=Counter)
 
     def take(self, data: str, flags: str) -> None:
         if data[:1] == "1":
             self.lengths[len(data) // 2] += 1
         self.flags[int(flags, 16)] += 1
-        if len(data) > 16 and data[:2] == "00" and len(data) > 4 + 2 * int(data[2:4], 16):
-            self.fills[int(data[-2:], 16)] += 1
 
     def settle(self, found: Sending) -> None:
         """What was seen most often counts."""
@@ -324,7 +371,6 @@ class FdFrames:
             length = self.lengths.most_common(1)[0][0]
             found.tx_dl = next((it for it in LENGTHS if it >= length), LENGTHS[-1])
         found.flags = self.flags.most_common(1)[0][0] if self.flags else found.flags
-        found.fill = self.fills.most_common(1)[0][0] if self.fills else None
 
 
 def length_of(data: str) -> int:
@@ -333,21 +379,8 @@ def length_of(data: str) -> int:
     return short or int(data[4:12] or "0", 16)
 
 
-def count_filling(fills: Counter, data: str) -> None:
-    """Counts how a SingleFrame of the unit is filled: by the byte, or None."""
-    length = int(data[:2] or "0", 16)
-    if not 1 <= length <= 6:
-        return
-    if len(data) == 2 + 2 * length:
-        fills[None] += 1
-    elif len(data) == 16:
-        fills[int(data[-2:], 16)] += 1
-
-
-def settle(found: Sending, fills: Counter, flows: Counter) -> None:
-    """What was seen most often counts."""
-    if fills:
-        found.pad = fills.most_common(1)[0][0]
+def settle(found: Sending, flows: Counter) -> None:
+    """The flow control that was seen most often counts."""
     known = {it: many for it, many in flows.items() if it[1] <= 127 or 241 <= it[1] <= 249}
     if known:
         found.block_size, found.st_min = max(known, key=lambda it: known[it])

@@ -5,7 +5,7 @@ from sys import intern
 from dataclasses import dataclass
 from typing import Callable, Iterable, Optional
 
-AGREES, DIFFERS, NOTHING = 0, 8, 9
+AGREES, BAD_SETUP, DIFFERS, NOTHING = 0, 2, 8, 9
 # the most digits of a message that is told
 MOST_DIGITS = 64
 
@@ -56,11 +56,11 @@ class Verdict:
 
 
 class Refused(Exception):
-    """The program doesn't take the recording, or the setup; with its status and what it tells, its notes too."""
+    """The program doesn't take the recording, or the setup; with its status, what it tells, its notes too, and the setup."""
 
-    def __init__(self, status: int, told: str):
+    def __init__(self, status: int, told: str, setup: str):
         super().__init__(told)
-        self.status, self.told = status, told
+        self.status, self.told, self.setup = status, told, setup
 
 
 # what judges a setup, by its text
@@ -106,8 +106,8 @@ class Program:
             with subprocess.Popen(words, stdout=subprocess.PIPE, stderr=told, encoding="utf-8") as child:
                 found = read_exchanges(child.stdout, self.names)
             told.seek(0)
-            # (no file of this tool's own is named)
-            notes = told.read().strip().replace(f"{self.room}/", "")
+            # (no file of this tool's own is named, and the setup is one)
+            notes = told.read().strip().replace(f"{self.room}/", "").replace(": the setup comes first, then the recording", "")
         if child.returncode not in (AGREES, DIFFERS, NOTHING):
-            raise Refused(child.returncode, notes)
+            raise Refused(child.returncode, notes, setup)
         return Verdict(found, child.returncode, notes)

@@ -9,7 +9,7 @@ from uds_names import IN_SESSION
 
 # limits of a setup
 MOST_VALUE, MOST_RESULT, MOST_SEED = 255, 32, 255
-GREATEST_CODE, GREATEST_LEVEL = 0xFFFFFE, 65
+GREATEST_CODE, GREATEST_LEVEL, GREATEST_SESSION = 0xFFFFFE, 65, 126
 LONGEST_TIME = 600_000
 MOST_DIDS, MOST_CODES, MOST_ROUTINES, MOST_LEVELS = 1024, 4096, 256, 4
 # how long a row is that lists a code: the code, and its status
@@ -37,6 +37,12 @@ def sub_of(it: Exchange) -> int:
 def is_done(it: Exchange) -> bool:
     """Whether the unit did what was asked, also where the request wanted no reply."""
     return is_positive(it) or (it.sent is None and len(it.request) > 1 and it.request[1] >= 0x80)
+
+
+def session_of(it: Exchange) -> int:
+    """The session that a request enters, of those that a setup can have; 0 for none."""
+    is_entered = it.request[0] == 0x10 and is_done(it) and 1 <= sub_of(it) <= GREATEST_SESSION
+    return sub_of(it) if is_entered else 0
 
 
 # ---- the session, as the unit's answers tell it
@@ -70,7 +76,7 @@ class Walk:
 
     def take(self, it: Exchange) -> None:
         sid, sub = it.request[0], sub_of(it)
-        if sid == 0x10 and is_done(it):
+        if session_of(it):
             self.enter(it.place, sub)
         elif sid == 0x11 and is_done(it):
             self.end()
@@ -153,35 +159,43 @@ def read_codes(unit: Unit, notes: Notes, it: Exchange, _: Held, __: int) -> None
 
 def read_values(unit: Unit, notes: Notes, it: Exchange, held: Held, _: int) -> None:
     """`62` has identifiers, each with its value."""
-    asked = [int.from_bytes(it.request[at : at + 2], "big") for at in range(1, len(it.request), 2)]
-    if refusal(it) == 0x33 and len(asked) == 1:
-        notes.locked.add((0x22, asked[0]))
-    if not is_positive(it) or len(it.request) % 2 == 0:
-        return
-    for number, value in values_in(unit, it.sent[1:], asked):
+    if refusal(it) == 0x33 and len(it.request) == 3:
+        notes.locked.add((0x22, int.from_bytes(it.request[1:], "big")))
+    for number, value in values_in(unit, it):
         did = unit.dids.setdefault(number, Did(value, value, Seen()))
         did.seen.at(it.line)
         did.changes = did.changes or value != did.now
         notes.granted[0x22, number].add(held.level)
 
 
-def values_in(unit: Unit, data: bytes, asked: list[int]) -> list[tuple[int, bytes]]:
-    """The identifiers and values of a reply, as far as the lengths of the values are known; one unknown one may be what is
-    left."""
-    found, left = [], [it for it in asked if it.to_bytes(2, "big") in data]
-    lengths = {it: len(unit.dids[it].value) for it in left if it in unit.dids}
-    unknown = [it for it in left if it not in lengths]
-    if len(unknown) > 1:
+def values_in(unit: Unit, it: Exchange) -> list[tuple[int, bytes]]:
+    """The identifiers and values of an answer to 22, as far as the lengths of the values are known, or the answer tells
+    them; one unknown one may be what is left."""
+    if not is_positive(it) or len(it.request) % 2 == 0:
         return []
-    rest = len(data) - sum(2 + lengths.get(it, 0) for it in left)
+    data, asked = it.sent[1:], [int.from_bytes(it.request[at : at + 2], "big") for at in range(1, len(it.request), 2)]
+    found, left = [], [number for number in asked if number.to_bytes(2, "big") in data]
+    lengths = {number: len(unit.dids[number].value) for number in left if number in unit.dids}
+    is_one = sum(number not in lengths for number in left) == 1
+    rest = len(data) - sum(2 + lengths.get(number, 0) for number in left)
     at = 0
-    for number in left:
-        size = lengths.get(number, rest)
+    for place, number in enumerate(left, 1):
+        size = lengths.get(number, rest if is_one else size_before(left[place:], data[at + 2 :]))
         if data[at : at + 2] != number.to_bytes(2, "big") or not 1 <= size <= MOST_VALUE or at + 2 + size > len(data):
             return []
         found.append((number, data[at + 2 : at + 2 + size]))
         at += 2 + size
     return found if at == len(data) else []
+
+
+def size_before(numbers: list[int], data: bytes) -> int:
+    """How long the value is with which some bytes begin, before these identifiers: 0 where the first of these may be in
+    several places, or in none."""
+    if not numbers:
+        return len(data)
+    first = numbers[0].to_bytes(2, "big")
+    at = data.find(first, 1)
+    return at if at > 0 and data.find(first, at + 1) < 0 else 0
 
 
 def read_writing(unit: Unit, notes: Notes, it: Exchange, held: Held, _: int) -> None:

@@ -8,7 +8,7 @@ from itertools import permutations
 from typing import Callable, Hashable, Iterable, Optional
 
 from learn_judge import Exchange
-from learn_model import Held, Walk, is_done, one_round, sub_of
+from learn_model import Held, Walk, is_done, one_round, session_of, sub_of, values_in
 from learn_setup import Row, Seen, Unit, setup_text
 from uds_names import SERVICES
 from uds_rules import items_of
@@ -39,18 +39,16 @@ class Stage(IntEnum):
 
 @dataclass
 class Case:
-    """Exchanges of one request with one answer, in their order, and their tester's session before each."""
+    """Exchanges of one request with one answer, in their order, the answer as a template has it, and their tester's session
+    before each."""
 
     held: Held
+    answer: str
     all: list[Exchange]
 
     @property
     def request(self) -> bytes:
         return self.all[0].request
-
-    @property
-    def answer(self) -> bytes:
-        return self.all[0].sent or b""
 
     def differs(self) -> bool:
         return any(it.differs() for it in self.all)
@@ -65,10 +63,20 @@ def cases_of(unit: Unit, exchanges: list[Exchange]) -> list[Case]:
             held = held if held.level in unit.levels or not held.level else Held(held.session)
             key = it.request, it.sent, held
             if key not in found:
-                found[key] = Case(held, [])
+                found[key] = Case(held, answer_of(unit, it), [])
             found[key].all.append(it)
             walk.take(it)
     return list(found.values())
+
+
+def answer_of(unit: Unit, it: Exchange) -> str:
+    """What the unit sent, as a template has it: where values vary their bytes are any."""
+    text, end = (it.sent or b"").hex().upper(), 2
+    for number, value in values_in(unit, it) if unit.varies and it.request[0] == 0x22 else ():
+        begin, end = end + 4, end + 4 + 2 * len(value)
+        if number in unit.dids and unit.dids[number].changes:
+            text = text[:begin] + "??" * len(value) + text[end:]
+    return text
 
 
 def grouped(cases: Iterable[Case], key: Callable[[Case], Hashable]) -> dict[Hashable, list[Case]]:
@@ -78,9 +86,9 @@ def grouped(cases: Iterable[Case], key: Callable[[Case], Hashable]) -> dict[Hash
     return found
 
 
-def exchanges_of(cases: list[Case]) -> list[Exchange]:
-    """The exchanges of some cases, in order."""
-    return sorted((it for case in cases for it in case.all), key=lambda it: (it.line, it.place))
+def answers_of(cases: list[Case]) -> list[str]:
+    """The answers of some cases, in the order of their exchanges."""
+    return [answer for _, _, answer in sorted((it.line, it.place, case.answer) for case in cases for it in case.all)]
 
 
 def request_of(case: Case) -> bytes:
@@ -110,19 +118,19 @@ def shortened(pattern: str, templates: list[str]) -> str:
 def template_of(cases: list[Case]) -> Optional[str]:
     """The one template that gives all answers: bytes that they have in common, or that their requests have at one place;
     None where there is none."""
-    answers = [it.answer for it in cases]
+    answers = [items_of(it.answer) for it in cases]
     if len(set(map(len, answers))) > 1 or len(answers[0]) > MOST_BYTES:
         return None
     items = [template_byte(cases, answers, at) for at in range(len(answers[0]))]
     return None if None in items else "".join(items)
 
 
-def template_byte(cases: list[Case], answers: list[bytes], at: int) -> Optional[str]:
+def template_byte(cases: list[Case], answers: list[list[str]], at: int) -> Optional[str]:
     wanted = [it[at] for it in answers]
     if len(set(wanted)) == 1:
-        return f"{wanted[0]:02X}"
+        return wanted[0]
     size = min(NAMED, MOST_ITEMS, min(len(it.request) for it in cases))
-    named = (place for place in range(size) if [it.request[place] for it in cases] == wanted)
+    named = (place for place in range(size) if [f"{it.request[place]:02X}" for it in cases] == wanted)
     place = next(named, None)
     return None if place is None else f"${place:X}"
 
@@ -140,8 +148,7 @@ def entered(cases: list[Case]) -> int:
         return 0
     if first.request[0] == 0x11:
         return 1
-    is_one = len({it.request for it in cases}) == 1
-    return sub_of(first) if first.request[0] == 0x10 and is_one and 1 <= sub_of(first) <= 126 else 0
+    return session_of(first) if len({it.request for it in cases}) == 1 else 0
 
 
 def row_of(unit: Unit, cases: list[Case], templates: list[str], held: Held) -> Row:
@@ -156,7 +163,7 @@ def seen_of(cases: list[Case]) -> Seen:
 
 def in_order(unit: Unit, cases: list[Case], held: Held) -> list[Row]:
     """The answers to one request, one after the other; no row where they are too many or too long."""
-    answers = one_round([(it.sent or b"").hex().upper() for it in exchanges_of(cases)])
+    answers = one_round(answers_of(cases))
     if len(answers) > MOST_TEMPLATES or any(len(it) > 2 * MOST_BYTES for it in answers):
         return []
     return [row_of(unit, cases, answers, held)]
@@ -167,7 +174,7 @@ def in_order(unit: Unit, cases: list[Case], held: Held) -> list[Row]:
 ANY = Held(0, 0)
 # how exchanges are parted that no one row explains
 SPLITS: dict[str, Callable[[Case], Hashable]] = {
-    "silence": lambda it: it.answer == b"",
+    "silence": lambda it: it.answer == "",
     "sub-function": lambda it: it.request[:2],
     "request": request_of,
     "session": lambda it: it.held.session,

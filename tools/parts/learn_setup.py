@@ -230,9 +230,10 @@ def tester_tables(unit: Unit) -> Iterator[str]:
 
 
 def did_tables(unit: Unit) -> Iterator[str]:
-    fitted = {it.request for it in unit.rows if not it.session and not it.level}
+    fitted = {it.request for it in unit.rows if it.reply and not it.session and not it.level}
     for number, it in sorted(unit.dids.items()):
-        if it.changes and not it.is_written and f"22{number:04X}" in fitted:
+        varies = it.changes and unit.varies
+        if it.changes and not varies and not it.is_written and f"22{number:04X}" in fitted:
             # its row says all that it is read with
             continue
         name = IDENTIFIERS.get(number, "identifier")
@@ -242,8 +243,7 @@ def did_tables(unit: Unit) -> Iterator[str]:
             yield f"read_level = 0x{it.read_level:02X}\n"
         if it.is_written:
             yield "write = true\n" + (f"write_level = 0x{it.write_level:02X}\n" if it.write_level else "")
-        if it.changes and unit.varies:
-            yield "varies = true\n"
+        yield "varies = true\n" if varies else ""
 
 
 def code_tables(unit: Unit) -> Iterator[str]:

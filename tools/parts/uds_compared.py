@@ -1,6 +1,7 @@
 """Reads what `compare` writes: each exchange of a recording, the testers' counts, and what the text says as a whole. For
 tools/junit.py and tools/view.py; no part of what is proved."""
 import re
+from collections import Counter
 from dataclasses import dataclass, field
 from typing import Iterable, Optional
 
@@ -47,16 +48,25 @@ class Report:
     stray: Optional[tuple[int, str]] = None
 
     def status(self) -> int:
-        """The status that the text tells; that of a fault where the testers' lines are missing."""
-        if not self.counts or self.stray:
+        """The status that the text tells; that of a fault where the testers' lines are missing, or don't fit."""
+        if not self.counts or self.stray or not self.is_whole():
             return FAULT
         if any(differ for _, differ in self.counts.values()):
             return DIFFERS
         return NOT_COMPARED if self.is_nothing else AGREES
 
+    def is_whole(self) -> bool:
+        """Whether the exchanges are those that the testers' lines count: all of them, or with `--differences` those that
+        differ."""
+        told = Counter(it.name for it in self.exchanges)
+        differing = Counter(it.name for it in self.exchanges if it.differs())
+        all_of_them = Counter({name: many for name, (many, _) in self.counts.items()})
+        good = differing == Counter({name: differ for name, (_, differ) in self.counts.items()})
+        return good and (told == all_of_them or told == differing <= all_of_them)
+
     def names(self) -> list[str]:
-        """The testers in the order of their lines; without these, as they come."""
-        return list(self.counts or dict.fromkeys(it.name for it in self.exchanges))
+        """The testers in the order of their lines; those without one behind them, as they come."""
+        return list(dict.fromkeys([*self.counts, *(it.name for it in self.exchanges)]))
 
 
 def message(digits: str) -> Optional[bytes]:
