@@ -963,7 +963,7 @@ class OfRecordings(unittest.TestCase):
 
     def test_words(self) -> None:
         status, told = self.told("", "--pair", "7E0:7E8=a b")
-        self.assertEqual((1, True), (status, "a name of 1 to 16 letters, digits or _" in told))
+        self.assertEqual((1, True), (status, "a name of 1 to 16 ASCII letters, digits or _" in told))
         status, told = self.told("", "--pair", "7E0:7E8=a", "--pair", "7E0:7E9=b")
         self.assertEqual((2, True), (status, "note: setup.toml: line " in told and "request of [[tester]] 2 is 0x7E0" in told), told)
         found = learned_of("", "--pair", "7E0:7E8=a", "--pair", "7E0:7E9=b")

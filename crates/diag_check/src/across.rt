@@ -100,7 +100,7 @@ impl Look<'_> {
         if let Some(after_ms) = number_at(answer, "after_ms") {
             if u64::from(after_ms) > latest {
                 let place = format!(in self.alloc;
-                    "after_ms{row} is {after_ms}: at most p2_ms and {MOST_PENDINGS} times p2_star_10ms, which is {latest}"
+                    "after_ms{row} is {after_ms}: at most p2_ms and {MOST_PENDINGS} times p2_star_10ms, 10 ms each, which is {latest}"
                 )?;
                 self.refuse(SetupFault::Range, row.key("after_ms"), place)?;
             }

@@ -3,7 +3,8 @@
 ghost use Rattle.std.specs.Prelude.{Some};
 ghost use Rattle.diag_check.specs.Report.{finding_text, line_text};
 
-use crate::keys::{Kind, Table};
+use crate::keys::{Kind, MOST_CODE, Table};
+use crate::value::may_be_meant;
 use diag_config::ConfigFault;
 use std::alloc::{AllocError, Global};
 use std::fmt;
@@ -191,26 +192,45 @@ fn write_meant<W: fmt::Write>(f: &mut fmt::Formatter<W>, kind: Kind, text: &str)
         return Ok(());
     }
     match kind {
-        Kind::Bytes(..) | Kind::Seed if is_spaced_hex(text) => {
-            write!(f, "; ")?;
-            write_without_spaces(f, text)?;
-            write!(f, "?")
-        }
-        Kind::Bytes(..) => write_letters(f, text),
-        Kind::Number(..) | Kind::Identifier(_) | Kind::SubFunction | Kind::Reference => {
-            match code_of(kind, text) {
-                Some(code) => write!(f, "; 0x{code:06X}, without quotes?"),
-                None => write_number(f, text),
-            }
-        }
+        Kind::Bytes(..) | Kind::Seed => write_meant_bytes(f, kind, text),
         Kind::Templates | Kind::Patterns => write!(f, "; a list stands between [ and ]"),
+        _ if kind.is_number() => match code_of(kind, text) {
+            Some(code) => write!(f, "; 0x{code:06X}, without quotes?"),
+            None => write_number(f, kind, text),
+        },
         _ => Ok(()),
     }
 }
 
-/// Whether a text is pairs of hex digits with a space between each two.
-fn is_spaced_hex(text: &str) -> bool {
-    text.split(' ').all(|pair| pair.len() == 2 && is_hex(pair))
+/// How a text may be meant that stands where bytes belong.
+fn write_meant_bytes<W: fmt::Write>(
+    f: &mut fmt::Formatter<W>,
+    kind: Kind,
+    text: &str,
+) -> fmt::Result {
+    let digits = digits_of(text);
+    if text.split(' ').all(is_pairs) {
+        write!(f, "; ")?;
+        write_digits(f, text)?;
+        write!(f, "?")
+    } else if !digits.is_empty() && is_hex(digits) {
+        write!(f, "; hex digits come in pairs: is one missing?")
+    } else if let Kind::Bytes(..) = kind {
+        write_letters(f, text)
+    } else {
+        Ok(())
+    }
+}
+
+/// A text without the `0x` before it.
+fn digits_of(text: &str) -> &str {
+    text.strip_prefix("0x").unwrap_or(text)
+}
+
+/// Whether a text is pairs of hex digits, with or without `0x` before them.
+fn is_pairs(text: &str) -> bool {
+    let digits = digits_of(text);
+    !digits.is_empty() && digits.len() % 2 == 0 && is_hex(digits)
 }
 
 /// Whether a text is hex digits alone.
@@ -218,9 +238,10 @@ pub fn is_hex(text: &str) -> bool {
     text.bytes().all(|c| c.is_ascii_hexdigit())
 }
 
-fn write_without_spaces<W: fmt::Write>(f: &mut fmt::Formatter<W>, text: &str) -> fmt::Result {
-    for pair in text.split(' ') {
-        f.write_str(pair)?;
+/// The digits of a text's parts, with no space between them.
+fn write_digits<W: fmt::Write>(f: &mut fmt::Formatter<W>, text: &str) -> fmt::Result {
+    for part in text.split(' ') {
+        f.write_str(digits_of(part))?;
     }
     Ok(())
 }
@@ -236,11 +257,7 @@ fn write_letters<W: fmt::Write>(f: &mut fmt::Formatter<W>, text: &str) -> fmt::R
 
 /// The number of a DTC that stands by its name (ISO 15031-6), with the failure type 00.
 fn code_of(kind: Kind, text: &str) -> Option<u32> {
-    let can_be_code = match kind {
-        Kind::Identifier(most) => most > 0xFFFF,
-        Kind::Reference => true,
-        _ => false,
-    };
+    let can_be_code = matches!(kind, Kind::Identifier(MOST_CODE) | Kind::KnownCode);
     let (group, digits) = match text.split_at_checked(1) {
         Some(("P", digits)) => (0, digits),
         Some(("C", digits)) => (1, digits),
@@ -255,13 +272,22 @@ fn code_of(kind: Kind, text: &str) -> Option<u32> {
     (number <= 0x3FFF).then_some((group << 22) | (number << 8))
 }
 
-/// A number that stands in quotes.
-fn write_number<W: fmt::Write>(f: &mut fmt::Formatter<W>, text: &str) -> fmt::Result {
-    let digits = text.strip_prefix("0x").unwrap_or(text);
-    if !digits.is_empty() && digits.len() <= 8 && is_hex(digits) {
-        write!(f, "; 0x{digits}, without quotes?")
-    } else {
-        Ok(())
+/// A number that stands in quotes: in hex where its kind is usually so or its text is no decimal number, else in decimal.
+/// A number that its key may not hold is not told.
+fn write_number<W: fmt::Write>(f: &mut fmt::Formatter<W>, kind: Kind, text: &str) -> fmt::Result {
+    let digits = digits_of(text);
+    if !is_hex(digits) {
+        return Ok(());
+    }
+    let hex = u32::from_str_radix(digits, 16).ok();
+    let decimal = u32::from_str_radix(text, 10).ok();
+    let is_in_hex = kind.is_in_hex() || decimal.is_none();
+    if is_in_hex && hex.is_some_and(|n| may_be_meant(kind, n)) {
+        return write!(f, "; 0x{digits}, without quotes?");
+    }
+    match decimal {
+        Some(n) if may_be_meant(kind, n) => write!(f, "; {n}, without quotes?"),
+        _ => Ok(()),
     }
 }
 

@@ -50,6 +50,8 @@ impl Table {
 pub enum Kind {
     /// A number from the first to the second.
     Number(u32, u32),
+    /// A byte, as the bits of a status.
+    Byte,
     /// An identifier from 0 to this one, which is told in hex.
     Identifier(u32),
     /// STmin as its byte (ISO 15765-2:2016, 9.6.5).
@@ -58,8 +60,10 @@ pub enum Kind {
     DataLength,
     /// The odd sub-function of a security level (ISO 14229-1:2013, 9.4).
     SubFunction,
-    /// A number that another table has. Whether it does is looked at last, so here it is any.
-    Reference,
+    /// The code of a `[[code]]`. Whether one has it is looked at last, so here it is any number.
+    KnownCode,
+    /// 0 or the sub of a `[[level]]`; here it is any number, too.
+    KnownLevel,
     Truth,
     /// A tester's name.
     Name,
@@ -106,6 +110,9 @@ pub const MOST_STANDARD: u32 = 0x7FF;
 /// The greatest identifier of 29 bits.
 const MOST_EXTENDED: u32 = 0x1FFF_FFFF;
 
+/// The greatest number of a DTC.
+pub const MOST_CODE: u32 = 0xFF_FFFE;
+
 /// A key of the whole unit, which may be left out.
 macro_rules! unit {
     ($name:literal, $kind:expr) => {
@@ -143,10 +150,10 @@ pub static KEYS: [Key; 55] = [
     unit!("st_min", Kind::Separation),
     unit!("max_request", Kind::Number(8, 65_535)),
     unit!("pad", Kind::Truth),
-    unit!("pad_byte", Kind::Number(0, 255)),
+    unit!("pad_byte", Kind::Byte),
     unit!("tx_dl", Kind::DataLength),
     unit!("fd_flags", Kind::Number(0, 15)),
-    unit!("availability", Kind::Number(0, 255)),
+    unit!("availability", Kind::Byte),
     unit!("functional", Kind::Identifier(MOST_STANDARD)),
     unit!("attempts", Kind::Number(1, 255)),
     unit!("delay_ms", Kind::Number(1, 600_000)),
@@ -205,7 +212,7 @@ pub static KEYS: [Key; 55] = [
         "did.read_level",
         "read_level",
         Table::Did,
-        Kind::Reference,
+        Kind::KnownLevel,
         Need::May
     ),
     key!("did.write", "write", Table::Did, Kind::Truth, Need::May),
@@ -213,7 +220,7 @@ pub static KEYS: [Key; 55] = [
         "did.write_level",
         "write_level",
         Table::Did,
-        Kind::Reference,
+        Kind::KnownLevel,
         Need::May
     ),
     key!("did.varies", "varies", Table::Did, Kind::Truth, Need::May),
@@ -221,16 +228,10 @@ pub static KEYS: [Key; 55] = [
         "code.code",
         "code",
         Table::Code,
-        Kind::Identifier(0xFF_FFFE),
+        Kind::Identifier(MOST_CODE),
         Need::Must
     ),
-    key!(
-        "code.status",
-        "status",
-        Table::Code,
-        Kind::Number(0, 255),
-        Need::Must
-    ),
+    key!("code.status", "status", Table::Code, Kind::Byte, Need::Must),
     key!(
         "routine.id",
         "id",
@@ -256,21 +257,21 @@ pub static KEYS: [Key; 55] = [
         "routine.level",
         "level",
         Table::Routine,
-        Kind::Reference,
+        Kind::KnownLevel,
         Need::May
     ),
     key!(
         "routine.code",
         "code",
         Table::Routine,
-        Kind::Reference,
+        Kind::KnownCode,
         Need::May
     ),
     key!(
         "routine.status",
         "status",
         Table::Routine,
-        Kind::Number(0, 255),
+        Kind::Byte,
         Need::Beside("code")
     ),
     key!(
@@ -340,7 +341,7 @@ pub static KEYS: [Key; 55] = [
         "answer.level",
         "level",
         Table::Answer,
-        Kind::Reference,
+        Kind::KnownLevel,
         Need::May
     ),
     key!(
@@ -372,23 +373,32 @@ impl Kind {
         matches!(
             self,
             Kind::Number(..)
+                | Kind::Byte
                 | Kind::Identifier(_)
                 | Kind::Separation
                 | Kind::DataLength
                 | Kind::SubFunction
-                | Kind::Reference
+                | Kind::KnownCode
+                | Kind::KnownLevel
         )
+    }
+
+    /// Whether its numbers are usually written in hex.
+    pub fn is_in_hex(self) -> bool {
+        matches!(self, Kind::Byte | Kind::Identifier(_) | Kind::KnownCode)
     }
 
     /// What a value of the kind is, in words, whatever its range.
     fn is_what(self) -> &'static str {
         match self {
             Kind::Number(..)
+            | Kind::Byte
             | Kind::Identifier(_)
             | Kind::Separation
             | Kind::DataLength
-            | Kind::SubFunction
-            | Kind::Reference => "a whole number from 0 to 4294967295",
+            | Kind::SubFunction => "a whole number",
+            Kind::KnownCode => "the code of a [[code]]",
+            Kind::KnownLevel => "0 or the sub of a [[level]]",
             Kind::Truth => "true or false",
             Kind::Name => "a text in quotes",
             Kind::Bytes(..) | Kind::Seed => {
@@ -415,18 +425,19 @@ pub struct Wanted(pub Kind);
 impl fmt::Display for Wanted {
     fn fmt<W: fmt::Write>(&self, f: &mut fmt::Formatter<W>) -> fmt::Result {
         let kind = self.0;
+        let what = kind.is_what();
         match kind {
             Kind::Identifier(MOST_EXTENDED) => {
                 write!(
                     f,
-                    "a whole number from 0 to 0x{MOST_STANDARD:X}, with extended = true to 0x{MOST_EXTENDED:X}"
+                    "{what} from 0 to 0x{MOST_STANDARD:X}, with extended = true to 0x{MOST_EXTENDED:X}"
                 )
             }
-            Kind::Number(..) | Kind::Identifier(_) | Kind::Separation => {
-                write!(f, "a whole number from {kind}")
+            Kind::Number(..) | Kind::Byte | Kind::Identifier(_) | Kind::Separation => {
+                write!(f, "{what} from {kind}")
             }
             Kind::DataLength | Kind::SubFunction => write!(f, "{kind}"),
-            _ => f.write_str(kind.is_what()),
+            _ => f.write_str(what),
         }
     }
 }
@@ -436,18 +447,19 @@ impl fmt::Display for Kind {
     fn fmt<W: fmt::Write>(&self, f: &mut fmt::Formatter<W>) -> fmt::Result {
         match self {
             Kind::Number(least, most) => write!(f, "{least} to {most}"),
+            Kind::Byte => write!(f, "0 to 255"),
             Kind::Identifier(most) => write!(f, "0 to 0x{most:X}"),
             Kind::Separation => write!(f, "0 to 127 or 241 to 249"),
             Kind::DataLength => write!(f, "8, 12, 16, 20, 24, 32, 48 or 64"),
             Kind::SubFunction => write!(f, "an odd number from 1 to 65"),
-            Kind::Name => write!(f, "1 to 16 letters, digits or _"),
+            Kind::Name => write!(f, "1 to 16 ASCII letters, digits or _"),
             Kind::Bytes(least, most) => write!(f, "{least} to {most} bytes"),
             Kind::Seed => write!(f, "1 to 255 bytes, not all zero"),
             Kind::Pattern => write!(f, "1 to 64 items"),
             Kind::Templates => write!(f, "1 to 4096 templates of at most 4095 items each"),
             Kind::Patterns => write!(f, "at most 256 patterns of 1 to 64 items each"),
             Kind::Rows(_, most) => write!(f, "at most {most}"),
-            Kind::Reference | Kind::Truth => write!(f, "{}", self.is_what()),
+            Kind::KnownCode | Kind::KnownLevel | Kind::Truth => write!(f, "{}", self.is_what()),
         }
     }
 }

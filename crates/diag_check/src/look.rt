@@ -3,7 +3,7 @@
 use crate::across::latest_answer_ms;
 use crate::finding::{Finding, Meant, Remark, Row, Shown, ShownKey, Spot};
 use crate::keys::{KEYS, Key, Kind, Need, Table, Wanted};
-use crate::near::nearest;
+use crate::near::hint;
 use crate::places::Places;
 use crate::value::{is_allowed, is_of_kind, is_pattern, is_template, items};
 use diag_config::ConfigFault;
@@ -300,31 +300,4 @@ fn is_needed(tree: &Tree, key: &Key) -> bool {
 
 fn is_known(tree: &Tree, name: &str, table: Table) -> bool {
     KEYS.iter().any(|key| key.table == table && key.name == name && counts(tree, key))
-}
-
-/// What a key that is passed over may be meant to be.
-fn hint(alloc: Global, name: &str, table: Table) -> Result<String, AllocError> {
-    if let Some(near) = nearest(alloc, name, table)? {
-        return format!(in alloc; "; {near}?");
-    }
-    let other = KEYS.iter().find(|key| key.name == name);
-    match other {
-        Some(
-            Key {
-                need: Need::Beside(other),
-                ..
-            },
-        ) => format!(in alloc; "; it counts beside {other} alone"),
-        Some(
-            Key {
-                table: Table::Unit,
-                ..
-            },
-        ) => format!(in alloc; "; it belongs to the whole unit, before the first [[..]]"),
-        Some(key) => {
-            let path = key.table.path();
-            format!(in alloc; "; it belongs to [[{path}]]")
-        }
-        None => Ok(String::new(alloc)),
-    }
 }

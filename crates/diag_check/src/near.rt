@@ -1,18 +1,71 @@
-//! The known key that one which is passed over may be meant to be.
+//! What a key that is passed over may be meant to be.
 
-use crate::keys::{KEYS, Table};
+use crate::keys::{KEYS, Key, Need, Table};
 use std::alloc::{AllocError, Global};
 use strsim::osa_distance;
 
 /// The longest name that is compared, in bytes.
 const MOST_COMPARED: usize = 32;
 
+/// What helps with a key of a table that is passed over: the key of this name there, but for the case of its letters, else
+/// where a key of this name belongs, else the nearest one.
+pub fn hint(alloc: Global, name: &str, table: Table) -> Result<String, AllocError> {
+    let lower = name.to_ascii_lowercase(alloc)?;
+    let lower = lower.as_str();
+    let own = KEYS
+        .iter()
+        .find(|key| key.table == table && key.name == lower);
+    if let Some(key) = own {
+        return own_hint(alloc, key, name);
+    }
+    if let (Table::Did, "level") = (table, lower) {
+        return format!(in alloc; "; read_level or write_level?");
+    }
+    if is_of_unit(lower) {
+        return format!(in alloc; "; it belongs to the whole unit, before the first [[..]]");
+    }
+    let owners = owners(alloc, lower)?;
+    if !owners.is_empty() {
+        let owners = owners.as_str();
+        return format!(in alloc; "; it belongs to {owners}");
+    }
+    match nearest(alloc, lower, table)? {
+        Some(near) => format!(in alloc; "; {near}?"),
+        None => Ok(String::new(alloc)),
+    }
+}
+
+/// What helps where a table has this key, and what stands there is passed over.
+fn own_hint(alloc: Global, key: &Key, name: &str) -> Result<String, AllocError> {
+    let own = key.name;
+    match key.need {
+        Need::Beside(other) if own == name => {
+            format!(in alloc; "; it counts beside {other} alone")
+        }
+        _ => format!(in alloc; "; {own}?"),
+    }
+}
+
+/// Whether the whole unit has a key of this name, but for those of lists.
+fn is_of_unit(name: &str) -> bool {
+    KEYS.iter().any(|key| key.table == Table::Unit && key.name == name && !key.is_list())
+}
+
+/// The lists whose tables have a key of this name, as `[[did]] or [[routine]]`; empty where none has.
+fn owners(alloc: Global, name: &str) -> Result<String, AllocError> {
+    let mut owners = String::new(alloc);
+    for key in &KEYS {
+        if key.table != Table::Unit && key.name == name {
+            let joint = if owners.is_empty() { "" } else { " or " };
+            let path = key.table.path();
+            write!(owners, "{joint}[[{path}]]")?;
+        }
+    }
+    Ok(owners)
+}
+
 /// The name of the nearest key of a table, where one is near: by one edit, or by two that leave some of the name.
-pub fn nearest(
-    alloc: Global,
-    name: &str,
-    table: Table,
-) -> Result<Option<&'static str>, AllocError> {
+fn nearest(alloc: Global, name: &str, table: Table) -> Result<Option<&'static str>, AllocError> {
     if name.len() > MOST_COMPARED {
         return Ok(None);
     }
@@ -22,7 +75,7 @@ pub fn nearest(
         if key.table == table {
             let edits = osa_distance(alloc, name, key.name)?;
             let most = key.name.len().min(name.len().max(2));
-            if 0 < edits && edits < least.min(most) {
+            if edits < least.min(most) {
                 least = edits;
                 nearest = Some(key.name);
             }

@@ -1,6 +1,6 @@
 //! What a value may be by its kind alone.
 
-use crate::keys::Kind;
+use crate::keys::{Kind, MOST_CODE};
 use toml::Value;
 
 /// The number that a value says: a whole one from 0 to 4294967295.
@@ -91,11 +91,13 @@ pub fn items(value: &Value) -> &[Value] {
 pub fn is_of_kind(kind: Kind, value: &Value) -> bool {
     match kind {
         Kind::Number(..)
+        | Kind::Byte
         | Kind::Identifier(_)
         | Kind::Separation
         | Kind::DataLength
         | Kind::SubFunction
-        | Kind::Reference => number(value).is_some(),
+        | Kind::KnownCode
+        | Kind::KnownLevel => number(value).is_some(),
         Kind::Truth => value.is_bool(),
         Kind::Name => value.is_str(),
         Kind::Bytes(..) | Kind::Seed => value.is_str() && is_hex(text(value)),
@@ -116,11 +118,21 @@ fn is_name(text: &[u8]) -> bool {
 fn is_number_allowed(kind: Kind, n: u32) -> bool {
     match kind {
         Kind::Number(least, most) => least <= n && n <= most,
+        Kind::Byte => n <= 255,
         Kind::Identifier(most) => n <= most,
         Kind::Separation => n <= 127 || (241 <= n && n <= 249),
         Kind::DataLength => matches!(n, 8 | 12 | 16 | 20 | 24 | 32 | 48 | 64),
         Kind::SubFunction => n <= 65 && n % 2 == 1,
         _ => true,
+    }
+}
+
+/// Whether a number may be meant at a key of a kind. It is within the key's range, or within that of the key it refers to.
+pub fn may_be_meant(kind: Kind, n: u32) -> bool {
+    match kind {
+        Kind::KnownCode => is_number_allowed(Kind::Identifier(MOST_CODE), n),
+        Kind::KnownLevel => n == 0 || is_number_allowed(Kind::SubFunction, n),
+        _ => is_number_allowed(kind, n),
     }
 }
 
