@@ -1,5 +1,6 @@
 //! What a line looks like that isn't one of `candump -L`.
 
+use crate::form::{has_form, interface_and_frame, is_beginning, is_digits, is_hex};
 use crate::line::FoundLine;
 
 /// What a file is by its first bytes, where it is none of lines of ASCII, and what helps.
@@ -26,17 +27,29 @@ pub fn file_kind(first: &[u8]) -> Option<&'static str> {
     }
 }
 
-/// What a line of a log or of a capture looks like, and what helps.
-pub fn looks(line: &FoundLine) -> &'static str {
-    match line.bytes.as_slice() {
-        [0xEF, 0xBB, 0xBF, ..] => {
-            "it begins with a byte order mark: save the recording without one"
-        }
-        [b'(', ..] if !line.is_ended => {
-            "it is the last line and has no end: was the recording cut off?"
-        }
-        bytes => by_text(std::str::from_utf8(bytes).unwrap_or("")),
+/// What is told of a line of a capture that has more bytes than it may have.
+pub const TOO_LONG: &str =
+    "it has more than 4096 bytes, which no line of a capture may have: does each line end with LF?";
+
+/// What a line of a log or of a capture looks like, and what helps. `is_recorded` says that other lines of its file are those
+/// of a recording.
+pub fn looks(line: &FoundLine, is_recorded: bool) -> &'static str {
+    let bytes = line.bytes.as_slice();
+    let text = std::str::from_utf8(bytes).unwrap_or("");
+    if bytes.starts_with(&[0xEF, 0xBB, 0xBF]) {
+        "it begins with a byte order mark: save the recording without one"
+    } else if !line.is_ended && line.length == bytes.len() && is_beginning(text) {
+        "it is the last line and has no end: was the recording cut off?"
+    } else if is_comment(text, is_recorded) {
+        "it is a comment, of which a recording has none: a line has the form (1.000000) can0 7E0#021003, as candump -L writes it"
+    } else {
+        by_text(text)
     }
+}
+
+/// Whether a line is no more than a text for a reader. One that begins with # may be that of a setup.
+fn is_comment(line: &str, is_recorded: bool) -> bool {
+    line.starts_with(';') && !line.starts_with(";$") || is_recorded && line.starts_with('#')
 }
 
 fn by_text(line: &str) -> &'static str {
@@ -71,12 +84,23 @@ fn in_its_form(line: &str) -> &'static str {
         "a line begins with its stamp, and not with a space"
     } else if stamp.contains(',') {
         "its stamp has a comma: seconds, a point and 6 to 9 digits"
-    } else if !has_form(stamp) {
+    } else if !has_form(stamp.strip_prefix('(').unwrap_or("")) {
         "its stamp isn't 1 to 12 digits, a point and 6 to 9 digits"
-    } else if !rest.contains('#') {
+    } else {
+        behind_stamp(rest)
+    }
+}
+
+/// What is wrong behind the stamp of a line.
+fn behind_stamp(rest: &str) -> &'static str {
+    if !rest.contains('#') {
         "it has no identifier and #, as 7E0#021003"
-    } else if line.contains('\t') {
+    } else if rest.contains('\t') {
         "its parts stand apart by a tab, where a space is wanted"
+    } else if !rest.starts_with(' ') {
+        "behind its stamp a space is wanted, as in (1.000000) can0 7E0#021003"
+    } else if !has_interface(rest) {
+        "it has no interface: its name stands before the identifier, as in (1.000000) can0 7E0#021003"
     } else if rest.contains("0x") {
         "an identifier has no 0x: 3 hex digits up to 7FF, or 8, as 7E0#021003"
     } else if rest.contains("##") {
@@ -88,23 +112,15 @@ fn in_its_form(line: &str) -> &'static str {
     }
 }
 
+/// Whether `#` stands behind the word that is the interface's.
+fn has_interface(rest: &str) -> bool {
+    interface_and_frame(rest).is_some_and(|(_, frame)| frame.contains('#'))
+}
+
 /// Whether more hex digits stand behind `#` than a classic frame has.
 fn has_many_digits(rest: &str) -> bool {
     let (_, data) = rest.split_once('#').unwrap_or(("", ""));
     data.bytes().take_while(|c| c.is_ascii_hexdigit()).count() > 16
-}
-
-/// Whether a stamp without its end is `(`, digits, a point and 6 to 9 digits.
-fn has_form(stamp: &str) -> bool {
-    let Some((seconds, fraction)) = stamp.split_once('.') else {
-        return false;
-    };
-    let seconds = seconds.strip_prefix('(').unwrap_or("");
-    is_digits(seconds, 1, 12) && is_digits(fraction, 6, 9)
-}
-
-fn is_digits(text: &str, least: usize, most: usize) -> bool {
-    least <= text.len() && text.len() <= most && text.bytes().all(|c| c.is_ascii_digit())
 }
 
 /// Whether a line is an interface, an identifier, and a length in brackets.
@@ -113,10 +129,6 @@ fn is_screen(line: &str) -> bool {
     let (name, id, length) = (words.next(), words.next(), words.next());
     let has_length = length.is_some_and(|length| length.starts_with('[') && length.ends_with(']'));
     name.is_some() && id.is_some_and(is_hex) && has_length
-}
-
-fn is_hex(text: &str) -> bool {
-    text.bytes().all(|c| c.is_ascii_hexdigit())
 }
 
 fn is_journal(line: &str) -> bool {
@@ -140,7 +152,22 @@ fn is_setup(line: &str) -> bool {
     line.starts_with("[[") || line.starts_with("# ") || line.contains(" = ")
 }
 
-/// Whether a text that isn't a setup looks like a recording.
+/// What a text that isn't a setup looks like.
+pub fn instead_of_setup(text: &[u8]) -> Option<&'static str> {
+    if is_recording(text) {
+        Some("recording")
+    } else if text.starts_with(b"diag-journal ".as_slice()) {
+        Some("journal")
+    } else {
+        None
+    }
+}
+
+/// Whether the first line of a text that is neither empty nor a comment is one of a recording.
 pub fn is_recording(text: &[u8]) -> bool {
-    text.starts_with(b"(".as_slice()) || text.starts_with(b"tick".as_slice())
+    let mut lines = text.split(|c| *c == b'\n');
+    let first = lines.find(|line| !matches!(line, [] | [b'\r'] | [b'#' | b';', ..]));
+    first.is_some_and(|line| {
+        line.starts_with(b"(".as_slice()) || line.starts_with(b"tick".as_slice())
+    })
 }

@@ -1,6 +1,7 @@
 //! What can be told of a file behind a fault, and of a recording behind a run.
 #![tactic(auto)]
 
+mod form;
 mod journal;
 mod kind;
 mod line;
@@ -9,7 +10,7 @@ mod place;
 mod seen;
 
 pub use journal::expected;
-pub use kind::{file_kind, is_recording, looks};
+pub use kind::{TOO_LONG, file_kind, instead_of_setup, is_recording, looks};
 pub use line::{FoundLine, ShownLine, line_at};
 pub use place::Place;
 pub use seen::{Recording, Side};

@@ -7,6 +7,9 @@ use std::io::Read;
 /// The most bytes of a line that are kept.
 pub const MOST_KEPT: usize = 256;
 
+/// The most bytes that a line of a capture may have, with CR and without LF.
+const MOST_LINE: usize = 4096;
+
 /// The most bytes of a line that are told.
 const MOST_SHOWN: usize = 60;
 
@@ -21,8 +24,17 @@ const PIECE: usize = 65_536;
 pub struct FoundLine {
     /// Its first bytes.
     pub bytes: Vec<u8>,
-    /// Whether it ends by LF, or goes on behind them.
+    /// How many bytes it has without LF, of which no more than 4097 are counted.
+    pub length: usize,
+    /// Whether it ends by LF, or goes on behind the counted bytes.
     pub is_ended: bool,
+}
+
+impl FoundLine {
+    /// Whether it has more bytes than a line of a capture may have.
+    pub fn is_too_long(&self) -> bool {
+        self.length > MOST_LINE
+    }
 }
 
 /// A line that is looked for as pieces of its file come.
@@ -31,6 +43,8 @@ struct Search {
     /// How many lines are still before it.
     before: u64,
     line: Vec<u8>,
+    /// How many of its bytes were seen.
+    length: usize,
     is_over: bool,
 }
 
@@ -44,11 +58,22 @@ impl Search {
                 if *byte == b'\n' {
                     self.before -= 1;
                 }
-            } else if *byte == b'\n' || self.line.len() >= MOST_KEPT {
-                self.is_over = true;
             } else {
-                self.line.push(*byte)?;
+                self.add(*byte)?;
             }
+        }
+        Ok(())
+    }
+
+    /// The line's next byte, or its end.
+    fn add(&mut self, byte: u8) -> Result<(), AllocError> {
+        if byte == b'\n' || self.length > MOST_LINE {
+            self.is_over = true;
+            return Ok(());
+        }
+        self.length = self.length.saturating_add(1);
+        if self.line.len() < MOST_KEPT {
+            self.line.push(byte)?;
         }
         Ok(())
     }
@@ -63,6 +88,7 @@ pub fn line_at<R: Read>(
     let mut search = Search {
         before: number.saturating_sub(1),
         line: Vec::new(alloc),
+        length: 0,
         is_over: false,
     };
     let mut piece = vec![in alloc; 0u8; PIECE]?;
@@ -78,6 +104,7 @@ pub fn line_at<R: Read>(
     let is_there = search.before == 0 && !search.line.is_empty();
     Ok(is_there.then_some(FoundLine {
         bytes: search.line,
+        length: search.length,
         is_ended: search.is_over,
     }))
 }

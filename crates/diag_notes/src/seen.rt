@@ -91,6 +91,8 @@ struct Frames {
     requests: u64,
     /// Those of the tester's own, functional ones among them, that are the first of messages.
     begins: u64,
+    /// Those of the tester's own, functional ones among them, that aren't remote frames.
+    data: u64,
     /// With the identifier of the unit's answers.
     responses: u64,
 }
@@ -100,6 +102,7 @@ impl Frames {
         all: 0,
         requests: 0,
         begins: 0,
+        data: 0,
         responses: 0,
     };
 
@@ -111,8 +114,9 @@ impl Frames {
         if line.id == side.request {
             self.requests = self.requests.saturating_add(1);
         }
-        if line.id != side.response && line.begins() {
-            self.begins = self.begins.saturating_add(1);
+        if line.id != side.response {
+            self.begins = self.begins.saturating_add(u64::from(line.begins()));
+            self.data = self.data.saturating_add(u64::from(!line.is_remote()));
         }
     }
 }
@@ -412,6 +416,12 @@ impl<'a> Recording<'a> {
         if frames.all == 0 {
             let told = format!(in self.alloc;
                 "no frame of {name} was seen{part}: its requests have the identifier {request:0digits$X}"
+            )?;
+            return Ok(Some(told));
+        }
+        if frames.requests > 0 && frames.data == 0 {
+            let told = format!(in self.alloc;
+                "only remote frames of {name} were seen{part}: they have no bytes, and are passed over"
             )?;
             return Ok(Some(told));
         }

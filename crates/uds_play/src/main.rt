@@ -58,16 +58,22 @@ fn main(rt: HostRuntime) -> ExitCode {
                 // starts here, by the command's name alone, before the words are read. It reads once it is told whose frames
                 // count; where the words are refused it ends with the program.
                 let hearing = if is_live(words.as_slice()) {
-                    let (Ok((to, pieces)), Ok((begin, begun))) = (
+                    let (Ok((to, pieces)), Ok((begin, begun)), Ok((first_to, first))) = (
                         bounded(rt.alloc(), PIECES),
+                        bounded(rt.alloc(), 1),
                         bounded(rt.alloc(), 1),
                     ) else {
                         return refuse(&rt, &Refusal::Memory);
                     };
-                    if thread::spawn(&rt, move || read_all(&rt, rt.alloc(), &begun, &to)).is_err() {
+                    let read = move || read_all(&rt, rt.alloc(), &begun, &to, &first_to);
+                    if thread::spawn(&rt, read).is_err() {
                         return refuse(&rt, &Refusal::Memory);
                     }
-                    Some(Hearing { begin, pieces })
+                    Some(Hearing {
+                        begin,
+                        pieces,
+                        first,
+                    })
                 } else {
                     None
                 };
@@ -484,7 +490,7 @@ fn run_live<R: Print + Eprint + Files + Input + AllocGlobal + Clock + Wait>(
             return status;
         }
     };
-    let Ok(pieces) = hearing.begin(rt, rt.alloc(), notes.interface) else {
+    let Ok((pieces, first)) = hearing.begin(rt, rt.alloc(), notes.interface) else {
         return refuse(rt, &Refusal::Memory);
     };
     let mut bench = match StandardBench::start(rt, rt.alloc(), &setup, pieces) {
@@ -493,7 +499,10 @@ fn run_live<R: Print + Eprint + Files + Input + AllocGlobal + Clock + Wait>(
     };
     let mut out = io::writer(rt);
     let outcome = serve(rt.alloc(), setup, &mut bench, &mut out, &mut record);
-    finish(rt, notes, &outcome, bench.first())
+    match first.try_recv(rt) {
+        Ok(first) => finish(rt, notes, &outcome, first.as_slice()),
+        Err(_) => finish(rt, notes, &outcome, bench.first()),
+    }
 }
 
 /// The setup of a config, or how the run ends without one.

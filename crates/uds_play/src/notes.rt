@@ -6,7 +6,8 @@ use crate::source::MOST_KEPT;
 use diag_check::{Remark, check, look_at};
 use diag_config::read_setup;
 use diag_notes::{
-    FoundLine, Place, Recording, ShownLine, Side, expected, file_kind, is_recording, line_at, looks,
+    FoundLine, Place, Recording, ShownLine, Side, TOO_LONG, expected, file_kind, instead_of_setup,
+    is_recording, line_at, looks,
 };
 use diag_run::Outcome;
 use diag_setup::{RawSetup, RawTester};
@@ -25,7 +26,7 @@ const MOST_LOOK: usize = 1_048_576;
 const MOST_JOURNAL: usize = 67_108_864;
 
 /// How many of a file's first bytes tell what it is.
-const MOST_FIRST: usize = 16;
+const MOST_FIRST: usize = 4096;
 
 /// The most faults of a setup that are noted.
 const MOST_FAULTS: usize = 10;
@@ -187,9 +188,9 @@ impl Notes<'_> {
         let Some(text) = self.setup_text(rt) else {
             return Ok(());
         };
-        if is_recording(text.as_slice()) {
+        if let Some(kind) = instead_of_setup(text.as_slice()) {
             let line = format!(in rt.alloc();
-                "{config} is a recording: the setup comes first, then the recording"
+                "{config} is a {kind}: the setup comes first, then the {kind}"
             )?;
             note(rt, line.as_str());
             return Ok(());
@@ -263,6 +264,16 @@ impl Notes<'_> {
         }
     }
 
+    /// The first bytes of a file; none where they can't be had.
+    fn start<R: Files + AllocGlobal>(&self, rt: &R, file: usize, first: &[u8]) -> Vec<u8> {
+        let start = if self.is_standard() {
+            Vec::from_slice(rt.alloc(), first).ok()
+        } else {
+            read_regular(rt, self.path(file), MOST_FIRST)
+        };
+        start.unwrap_or(Vec::new(rt.alloc()))
+    }
+
     /// A line that is at fault, and what it looks like.
     fn bad_line<R: Eprint + Files + AllocGlobal>(
         &self,
@@ -271,12 +282,18 @@ impl Notes<'_> {
         number: u64,
         first: &[u8],
     ) -> Result<(), AllocError> {
-        if self.other_kind(rt, file, first)? {
+        let start = self.start(rt, file, first);
+        if self.other_kind(rt, file, start.as_slice())? {
             return Ok(());
         }
         if let Some(line) = self.line(rt, file, number, first)? {
             self.shown(rt, file, number, line.bytes.as_slice())?;
-            note(rt, looks(&line));
+            let text = if line.is_too_long() && self.kind != FileKind::Logs {
+                TOO_LONG
+            } else {
+                looks(&line, is_recording(start.as_slice()))
+            };
+            note(rt, text);
         }
         Ok(())
     }
@@ -288,7 +305,7 @@ impl Notes<'_> {
         number: u64,
         first: &[u8],
     ) -> Result<(), AllocError> {
-        if self.other_kind(rt, 1, first)? {
+        if self.other_kind(rt, 1, self.start(rt, 1, first).as_slice())? {
             return Ok(());
         }
         if let Some(line) = self.line(rt, 1, number, first)? {
@@ -299,24 +316,19 @@ impl Notes<'_> {
     }
 
     /// Tells what a file is whose first bytes are no text, and says whether it is such a one. Its lines tell nothing.
-    fn other_kind<R: Eprint + Files + AllocGlobal>(
+    fn other_kind<R: Eprint + AllocGlobal>(
         &self,
         rt: &R,
         file: usize,
-        first: &[u8],
+        start: &[u8],
     ) -> Result<bool, AllocError> {
-        let path = self.path(file);
-        let kind = if self.is_standard() {
-            file_kind(first)
-        } else {
-            let first = read_regular(rt, path, MOST_FIRST);
-            first.and_then(|first| file_kind(first.as_slice()))
+        let Some(kind) = file_kind(start) else {
+            return Ok(false);
         };
-        if let Some(kind) = kind {
-            let line = format!(in rt.alloc(); "{path} is {kind}")?;
-            note(rt, line.as_str());
-        }
-        Ok(kind.is_some())
+        let path = self.path(file);
+        let line = format!(in rt.alloc(); "{path} is {kind}")?;
+        note(rt, line.as_str());
+        Ok(true)
     }
 
     /// An entry that differs, and what the server answers.
@@ -388,9 +400,8 @@ impl Notes<'_> {
         let Ok(setup) = read_setup(rt.alloc(), config.as_slice()) else {
             return Ok(());
         };
-        let is_one_silent = if self.files.is_empty() {
-            first.len() < MOST_KEPT
-                && note_unseen(rt, setup.raw(), &self.looked(0, is_judged), first)?
+        let is_one_silent = if self.is_standard() && first.len() < MOST_KEPT {
+            note_unseen(rt, setup.raw(), &self.looked(0, is_judged), first)?
         } else {
             self.unseen_in_files(rt, setup.raw(), is_judged)?
         };

@@ -2,14 +2,14 @@
 
 use crate::flow_lines::FlowLines;
 use crate::pace::Pace;
-use crate::source::keep;
+use crate::source::{Source, keep};
 use crossbeam_channel::{Receiver, RecvTimeoutError, Sender};
 use diag_interface::Chosen;
 use diag_live::{Bench, Heard};
 use diag_setup::Setup;
 use std::alloc::{AllocError, Global};
 use std::fs::OpenOptions;
-use std::io::{Read, Write};
+use std::io::{Empty, Read, Write};
 use std::rt::{Clock, Files};
 use std::sync::Wait;
 use std::time::{Duration, Instant};
@@ -204,10 +204,13 @@ pub struct Hearing {
     pub begin: Sender<Option<Vec<u8>>>,
     /// What it reads.
     pub pieces: Receiver<Heard>,
+    /// The first bytes of an input that has ended, those of other interfaces among them.
+    pub first: Receiver<Vec<u8>>,
 }
 
 impl Hearing {
-    /// Lets the thread begin, where only the frames of the interface of this name count, if any is given.
+    /// Lets the thread begin, where only the frames of the interface of this name count, if any is given: the pieces of
+    /// what counts, and the first bytes of all.
     ///
     /// # Errors
     /// Memory was refused.
@@ -216,14 +219,14 @@ impl Hearing {
         rt: &R,
         alloc: Global,
         interface: Option<&str>,
-    ) -> Result<Receiver<Heard>, AllocError> {
+    ) -> Result<(Receiver<Heard>, Receiver<Vec<u8>>), AllocError> {
         let name = match interface {
             Some(name) => Some(Vec::from_slice(alloc, name.as_bytes())?),
             None => None,
         };
         // Where the thread is gone, so are its pieces, and the run tells of it.
         let _ = self.begin.send(rt, name);
-        Ok(self.pieces)
+        Ok((self.pieces, self.first))
     }
 }
 
@@ -234,21 +237,31 @@ pub fn read_all<R: Input + Wait>(
     alloc: Global,
     begun: &Receiver<Option<Vec<u8>>>,
     to: &Sender<Heard>,
+    first_to: &Sender<Vec<u8>>,
 ) {
     let Ok(interface) = begun.recv(rt) else {
         return;
     };
     let name = interface.as_ref().map(|name| name.as_slice());
-    match Chosen::new(alloc, rt.reader(), name) {
-        Ok(mut input) => read_pieces(rt, alloc, &mut input, to),
-        Err(AllocError) => {
-            let _ = to.send(rt, Heard::Memory);
-        }
-    }
+    let mut first = Vec::new(alloc);
+    let input: Source<'_, Empty, _> = Source::Standard(rt.reader(), &mut first);
+    let end = read_chosen(rt, alloc, input, name, to);
+    // Where nobody takes them, or there is no memory, no note tells of them.
+    let _ = first_to.send(rt, first);
+    let _ = to.send(rt, end);
 }
 
-/// Hands over what a reader has, until nobody takes it.
-fn read_pieces<R: Wait, I: Read>(rt: &R, alloc: Global, input: &mut I, to: &Sender<Heard>) {
+/// Hands over what counts of an input, until nobody takes it, and says how it ended.
+fn read_chosen<R: Wait, I: Read + Drop>(
+    rt: &R,
+    alloc: Global,
+    input: I,
+    interface: Option<&[u8]>,
+    to: &Sender<Heard>,
+) -> Heard {
+    let Ok(mut input) = Chosen::new(alloc, input, interface) else {
+        return Heard::Memory;
+    };
     let mut buffer = [0u8; PIECE];
     for _ in rt.forever() {
         let heard = match input.read(&mut buffer) {
@@ -256,11 +269,14 @@ fn read_pieces<R: Wait, I: Read>(rt: &R, alloc: Global, input: &mut I, to: &Send
             Ok(count) => piece_of(alloc, &buffer[..count]),
             Err(_) => Heard::Fault,
         };
-        let goes_on = matches!(heard, Heard::Piece(_));
-        if to.send(rt, heard).is_err() || !goes_on {
+        if !matches!(heard, Heard::Piece(_)) {
+            return heard;
+        }
+        if to.send(rt, heard).is_err() {
             break;
         }
     }
+    Heard::Fault
 }
 
 /// A piece of these bytes.
