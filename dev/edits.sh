@@ -15,12 +15,21 @@ if [ $# = 0 ]; then
   for folder in crates/*/edits/; do crates+=("$(basename "$(dirname "$folder")")"); done
 fi
 
-# These crates and those below them, top down, a line each.
+# These crates and those below them, a line each, the last of crates.txt first.
 with_those_below() {
   tac crates.txt | awk -F: -v names="$*" 'BEGIN { n = split(names, given, " "); for (i = 1; i <= n; i++) needed[given[i]] }
     /^#/ { next }
-    { split($1, head, " ") }
-    head[1] in needed { print head[1]; n = split($2, below, " "); for (i = 1; i <= n; i++) needed[below[i]] }'
+    { split($1, head, " "); crates[++count] = head[1]; below[head[1]] = $2 }
+    END {
+      do {
+        more = 0
+        for (i = 1; i <= count; i++) {
+          n = crates[i] in needed ? split(below[crates[i]], own, " ") : 0
+          for (j = 1; j <= n; j++) if (!(own[j] in needed)) { needed[own[j]]; more = 1 }
+        }
+      } while (more)
+      for (i = 1; i <= count; i++) if (crates[i] in needed) print crates[i]
+    }'
 }
 
 copy=$(mktemp -d)
