@@ -510,6 +510,25 @@ class OfTheBus(unittest.TestCase):
         self.assertEqual((0xAA, 8, 5, 20, 20), (found.pad, found.block_size, found.st_min, found.longest, found.n_cr))
         self.assertIsNone(learn_bus.sending_of(self.lines("7E8#037F2E31", "7E8#027E00"), pair).pad)
 
+    def test_flow_control(self) -> None:
+        """What lets frames come tells block size and STmin; a reserved STmin counts as the longest one."""
+        pair, first = [learn_bus.Pair(0x7E0, 0x7E8)], "7E0#10142EF190414141"
+        for wanted, *flows in (((8, 5), "310000", "310000", "300805"), ((8, 127), "3008F0"), ((0, 249), "3000F9"), ((0, 0), "320805"), ((0, 0), "3008")):
+            found = learn_bus.sending_of(self.lines(first, *(f"7E8#{it}" for it in flows)), pair)
+            self.assertEqual(wanted, (found.block_size, found.st_min), flows)
+
+    def test_requests_that_are_too_long(self) -> None:
+        """The unit's flow control says so; one of the same length that it took, or said nothing to, isn't."""
+        pair = [learn_bus.Pair(0x7E0, 0x7E8)]
+        long, longer, longest = ((f"7E0#1{it:03X}2EF190414141", it) for it in (20, 256, 512))
+        no, yes = "7E8#320000", "7E8#300000"
+        for wanted, *asks in (
+            ((20, 256), long[0], yes, longer[0], no), ((20, 256), longest[0], no, longer[0], no, long[0]), ((0, 256), longer[0], no),
+            ((256, 512), longer[0], no, longer[0], "7E8#310000", yes, longest[0], no), ((512, None), longer[0], no, longest[0], yes, no),
+        ):
+            found = learn_bus.sending_of(self.lines(*asks), pair)
+            self.assertEqual(wanted, (found.longest, found.too_long), asks)
+
     def test_filling(self) -> None:
         """It is seen of SingleFrames, of FlowControl, and of the last Consecutive frame."""
         pair, first = [learn_bus.Pair(0x7E0, 0x7E8)], "7E8#100862F18C010203"
@@ -559,7 +578,8 @@ class OfTheBus(unittest.TestCase):
     def test_pairs_of_the_command_line(self) -> None:
         self.assertEqual(learn_bus.Pair(0x7E0, 0x7E8, False, "shop"), learn_bus.pair_of("7E0:7E8=shop"))
         self.assertEqual(learn_bus.Pair(0x7E0, 0x7E8, False, "shop", True), learn_bus.pair_of("7E0:7E8:fd=shop"))
-        for text in ("7E0", "7E0:18DAF110", "7E0:x", "7:8", "7E0:7E8:f", "7E0:7E8=a b", f"7E0:7E8={'a' * 17}"):
+        self.assertEqual(learn_bus.Pair(0x7E0, 0x7E8, False, "Shop", True), learn_bus.pair_of("7e0:7e8:FD=Shop"))
+        for text in ("7E0", "7E0:18DAF110", "7E0:x", "7:8", "7E0:7E8:f", "7E0:7E8=a b", f"7E0:7E8={'a' * 17}", "7E0:7E8=\u017fhop", "7E0:7E8=\u212a"):
             self.assertRaises(ValueError, learn_bus.pair_of, text)
 
 
@@ -676,6 +696,18 @@ def learned_of(lines: str, *words: str) -> Learned:
 def frames(*pairs: tuple[int, str]) -> str:
     """A recording of frames by their milliseconds."""
     return "".join(f"({100 + ms // 1000:010d}.{ms % 1000:03d}000) can0 {it}\n" for ms, it in pairs)
+
+
+def asked(*asks: tuple[str, ...]) -> str:
+    """A recording of requests, each with what the unit sends to it: the first message 4 ms later, any further one 60 ms later.
+    What is longer than a frame comes in several."""
+    link, steps = LinkSetup([], 0x7DF, 0, 0, 65535, None, 1000, 1000, None, fill=0xCC), []
+    for at, (request, *sent) in enumerate(asks):
+        for identifier, own, ms in ((0x7E0, request, 0), *((0x7E8, it, 4 + 60 * place) for place, it in enumerate(sent))):
+            first, *rest = (f"{identifier:03X}#{it.hex().upper()}" for it in cut(link, bytes.fromhex(own), 8))
+            flow = [f"{0x7E8 if identifier == 0x7E0 else 0x7E0:03X}#300000"] if rest else []
+            steps += [(at * 1000 + ms, it) for it in (first, *flow, *rest)]
+    return frames(*steps, (len(asks) * 1000, "123#00"))
 
 
 def judged(command: str, it: Learned, lines: str) -> tuple[int, str, str]:
@@ -864,6 +896,20 @@ class OfRecordings(unittest.TestCase):
         refused = self.varied(["62F40C0BF40D0B"], ["7F2222"], ["62F40C01F40D02"])
         self.assertEqual((two, {"22F40CF40D": ["62F40C??F40D??", "7F2222", "62F40C??F40D??"]}), (refused.tree()["did"], rows_of(refused)))
 
+    def test_what_varies_in_length(self) -> None:
+        """A row has as many open bytes as came each time, which is told."""
+        told = "learn: the values of F40C have 1, 2 and 3 bytes: any bytes will do, but as many as were recorded each time\n"
+        for request, answers, templates in (
+            ("22F40C", ["62F40C0B5401", "62F40C0B", "62F40C0B55"], ["62F40C??????", "62F40C??", "62F40C????"]),
+            ("22F40CF190", ["62F40C01F19041", "62F40C010203F19041", "62F40C0102F19041"], ["62F40C??F19041", "62F40C??????F19041", "62F40C????F19041"]),
+        ):
+            lines = asked(*((request, it) for it in answers))
+            found, plain = learned_of(lines, "--varies"), learned_of(lines)
+            self.assertEqual((0, told, {request: templates}), (found.status, found.told, rows_of(found)))
+            self.assertEqual((0, "", {request: answers}), (plain.status, plain.told, rows_of(plain)))
+            other = [(request, it.replace("40C0", "40C7")) for it in answers]
+            self.assertEqual((0, 8), (judged("compare", found, asked(*other))[0], judged("compare", found, asked(*other[1:]))[0]))
+
     def test_values_of_one_answer(self) -> None:
         """Where the identifier behind it may stand in several places the lengths aren't known."""
         def values(request: str, sent: str) -> list[tuple[int, str]]:
@@ -874,6 +920,9 @@ class OfRecordings(unittest.TestCase):
         self.assertEqual([(0xF40C, "F4"), (0xF190, "0102"), (0xF40D, "05")], values("22F40CF190F40D", "62F40CF4F1900102F40D05"))
         self.assertEqual([(0xF40C, "01"), (0xF40C, "01")], values("22F40CF40C", "62F40C01F40C01"))
         self.assertEqual([(0xF40C, "0102")], values("22F40CF40D", "62F40C0102"))
+        # (F190 had two bytes)
+        self.assertEqual([(0xF190, "01")], values("22F190", "62F19001"))
+        self.assertEqual([(0xF190, "010203"), (0xF40C, "04")], values("22F190F40C", "62F190010203F40C04"))
         for request, sent in (("22F40CF40D", "62F40C01F40D02F40D03"), ("22F40CF40D", "62F40DF40C"), ("22F40CF40D", "62F40CF40D"), ("22F40C", "62F40C"), ("22F4", "62F4"), ("22F40C", "7F2231")):
             self.assertEqual([], values(request, sent), sent)
 
@@ -894,6 +943,26 @@ class OfRecordings(unittest.TestCase):
         found = learned_of(frames((0, "7E0#0414FFFFFF"), (40, "7E8#037F1478"), (700, "7E8#0154")))
         self.assertEqual([{"request": "14FFFFFF", "after_ms": 700}], found.tree()["answer"])
         self.assertEqual(0, found.status)
+
+    def test_an_answer_that_is_slow_in_one_session(self) -> None:
+        """In the others it is as prompt as it was."""
+        clear, slow, session = ("14FFFFFF", "7F1431"), ("14FFFFFF", "7F1478", "54"), ("1003", "5003003201F4")
+        late = {"request": "14FFFFFF", "after_ms": 64}
+        for asks, wanted in (
+            ([slow, session, slow], [late]), ([session, slow, ("1001", "5001003201F4"), slow], [late]),
+            ([session, slow], [late]), ([slow, ("14FFFFFF", "54")], [late]), ([("14FFFFFF", "54"), session, slow], [{**late, "session": 3}]),
+            ([slow, session, ("14FFFFFF", "54")], [{**late, "session": 1}]),
+            ([session, slow, ("1001", "5001003201F4"), clear], [{"request": "14FFFFFF", "reply": ["7F1431"], "session": 1}, late]),
+        ):
+            lines = asked(*asks)
+            found = learned_of(lines)
+            self.assertEqual((0, "", wanted), (found.status, found.told, found.tree()["answer"]), asks)
+            self.assertEqual(0, judged("verify", found, lines)[0], asks)
+
+    def test_slow_answers_of_one_row(self) -> None:
+        """It says how slow they are, so there is no other row for them."""
+        found = learned_of(asked(("280301", "7F2878", "6803"), ("280001", "7F2878", "6800")))
+        self.assertEqual((0, [{"request": "28..01", "reply": ["68$1"], "after_ms": 64}]), (found.status, found.tree()["answer"]))
 
     def test_an_obd_unit(self) -> None:
         asks = [(0, "7DF#020100"), (9, "7E8#064100BE3EB811"), (20, "7DF#02010C"), (29, "7E8#04410C1AF8"), (40, "7DF#02010C"), (49, "7E8#04410C1B10")]

@@ -209,6 +209,14 @@ def tell_apart(unit: Unit, differing: list[Exchange]) -> None:
             say(f"what {pair.name} was sent to functional requests counts as unasked: {why_apart(unit, pair)}")
 
 
+def tell_sizes(unit: Unit) -> None:
+    """Tells of identifiers that vary in how many bytes they have, for `compare` takes no other number."""
+    for number, it in sorted(unit.dids.items()):
+        if unit.varies and len(it.sizes) > 1:
+            *most, last = map(str, sorted(it.sizes))
+            say(f"the values of {number:04X} have {', '.join(most)} and {last} bytes: any bytes will do, but as many as were recorded each time")
+
+
 def tell(verdict: Verdict, unit: Unit, left_out: int) -> None:
     """Tells what differs, by so many rows that found no room."""
     differing = verdict.differing()
@@ -367,6 +375,7 @@ def main(given: Optional[list[str]] = None) -> int:
     if not is_printed(text):
         return 7
     tell(verdict, unit, left_out)
+    tell_sizes(unit)
     tell_broken(unit.sending.broken)
     return verdict.status if verdict.status in (DIFFERS, NOTHING) else AGREES
 

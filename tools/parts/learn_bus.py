@@ -15,7 +15,7 @@ LEAST_ANSWERS, LEAST_PART = 2, 0.5
 MOST_TESTERS = 8
 PAIR = re.compile(
     r"(?P<request>[0-9A-F]{3}|[0-9A-F]{8}):(?P<response>[0-9A-F]{3}|[0-9A-F]{8})(?P<fd>:fd)?(?:=(?P<name>[A-Za-z0-9_]{1,16}))?",
-    re.IGNORECASE,
+    re.IGNORECASE | re.ASCII,
 )
 # how a SingleFrame or a FirstFrame begins, one of more than 8 bytes too; and how long the frames of a long message may be
 BEGINNING = "0[1-7]|00(?:0[89A-F]|[12][0-9A-F]|3[0-9A-E])|1[0-9A-F][0-9A-F]{2}"
@@ -265,14 +265,16 @@ class Broken:
 @dataclass
 class Sending:
     """How the unit and its testers send: the padding byte, None for none; block size and STmin of the unit's flow control;
-    the longest request; the longest time within a request, and from an answer's FirstFrame to its flow control, in
-    milliseconds; which messages of the unit are broken; and of its frames of CAN FD the length of FirstFrames, the flags, and
-    the byte that fills those of more than 8 bytes, None where none was seen."""
+    the longest request that it didn't refuse by that, and the shortest that it did, None where it refused none; the longest
+    time within a request, and from an answer's FirstFrame to its flow control, in milliseconds; which messages of the unit
+    are broken; and of its frames of CAN FD the length of FirstFrames, the flags, and the byte that fills those of more than 8
+    bytes, None where none was seen."""
 
     pad: Optional[int] = 0xCC
     block_size: int = 0
     st_min: int = 0
     longest: int = 0
+    too_long: Optional[int] = None
     n_cr: int = 0
     n_bs: int = 0
     broken: Broken = field(default_factory=Broken)
@@ -283,7 +285,7 @@ class Sending:
 
 def sending_of(blocks: Iterable[str], pairs: list[Pair], interface: Optional[str] = None) -> Sending:
     """How the frames of these pairs are sent."""
-    found, flows, filling, fd = Sending(), Counter(), Filling(), FdFrames()
+    found, flows, filling, fd = Sending(), Flows(), Filling(), FdFrames()
     requests = dict(it.texts() for it in pairs)
     responses, by_fd = set(requests.values()), {text for it in pairs if it.is_fd for text in it.texts()}
     last, waits = {}, {}
@@ -299,18 +301,18 @@ def sending_of(blocks: Iterable[str], pairs: list[Pair], interface: Optional[str
             if flags:
                 fd.take(data, flags)
             if kind == "3" and len(data) >= 6:
-                flows[int(data[2:4], 16), int(data[4:6], 16)] += 1
+                flows.take(identifier, data)
             elif kind == "1":
                 waits[identifier] = now
         elif kind == "3" and requests[identifier] in waits:
             found.n_bs = max(found.n_bs, now - waits.pop(requests[identifier]))
         elif kind == "1":
             last[identifier] = now
-            found.longest = max(found.longest, length_of(data))
+            flows.asked(requests[identifier], length_of(data))
         elif kind == "2" and identifier in last:
             found.n_cr = max(found.n_cr, min(now - last[identifier], 60000))
             last[identifier] = now
-    settle(found, flows)
+    flows.settle(found)
     filling.settle(found)
     fd.settle(found)
     return found
@@ -353,6 +355,39 @@ def used_of(data: str, ending: int) -> int:
 
 
 @dataclass
+class Flows:
+    """The unit's flow control: how often which block size and STmin let frames come; and how long the requests of several
+    frames are, by what it says to their FirstFrames: `0` lets them come, `2` refuses them as too long."""
+
+    let: Counter = field(default_factory=Counter)
+    lengths: dict[str, set[int]] = field(default_factory=lambda: defaultdict(set))
+    # by the response identifier how long the request is to which it has said neither
+    open: dict[str, int] = field(default_factory=dict)
+
+    def asked(self, response: str, length: int) -> None:
+        """A FirstFrame of the tester that has the answers of this identifier."""
+        self.open[response] = length
+        self.lengths[""].add(length)
+
+    def take(self, response: str, data: str) -> None:
+        """A frame of flow control."""
+        status, block_size, st_min = data[1], int(data[2:4], 16), int(data[4:6], 16)
+        if status == "0":
+            # (ISO 15765-2 has a reserved STmin taken as the longest one)
+            self.let[block_size, st_min if st_min <= 127 or 241 <= st_min <= 249 else 127] += 1
+        if status in ("0", "2") and response in self.open:
+            self.lengths[status].add(self.open.pop(response))
+
+    def settle(self, found: Sending) -> None:
+        """The flow control that was seen most often counts."""
+        if self.let:
+            (found.block_size, found.st_min), _ = self.let.most_common(1)[0]
+        refused = self.lengths["2"] - self.lengths["0"]
+        found.longest = max(self.lengths[""] - refused, default=0)
+        found.too_long = min((it for it in refused if it > found.longest), default=None)
+
+
+@dataclass
 class FdFrames:
     """What was seen of the unit's frames of CAN FD: the lengths of FirstFrames, for a SingleFrame is as short as it can be,
     and the flags."""
@@ -377,10 +412,3 @@ def length_of(data: str) -> int:
     """The length that a FirstFrame tells."""
     short = int(data[1:4] or "0", 16)
     return short or int(data[4:12] or "0", 16)
-
-
-def settle(found: Sending, flows: Counter) -> None:
-    """The flow control that was seen most often counts."""
-    known = {it: many for it, many in flows.items() if it[1] <= 127 or 241 <= it[1] <= 249}
-    if known:
-        found.block_size, found.st_min = max(known, key=lambda it: known[it])

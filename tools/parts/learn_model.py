@@ -165,17 +165,25 @@ def read_values(unit: Unit, notes: Notes, it: Exchange, held: Held, _: int) -> N
         did = unit.dids.setdefault(number, Did(value, value, Seen()))
         did.seen.at(it.line)
         did.changes = did.changes or value != did.now
+        did.sizes.add(len(value))
         notes.granted[0x22, number].add(held.level)
 
 
 def values_in(unit: Unit, it: Exchange) -> list[tuple[int, bytes]]:
-    """The identifiers and values of an answer to 22, as far as the lengths of the values are known, or the answer tells
-    them; one unknown one may be what is left."""
+    """The identifiers and values of an answer to 22: where the lengths that are known don't fit it, as far as it tells them
+    itself."""
     if not is_positive(it) or len(it.request) % 2 == 0:
         return []
     data, asked = it.sent[1:], [int.from_bytes(it.request[at : at + 2], "big") for at in range(1, len(it.request), 2)]
-    found, left = [], [number for number in asked if number.to_bytes(2, "big") in data]
+    left = [number for number in asked if number.to_bytes(2, "big") in data]
     lengths = {number: len(unit.dids[number].value) for number in left if number in unit.dids}
+    return parted(data, left, lengths) or parted(data, left, {})
+
+
+def parted(data: bytes, left: list[int], lengths: dict[int, int]) -> list[tuple[int, bytes]]:
+    """Identifiers, each with its value, by these lengths or those that the data tells; one unknown one may be what is left. None
+    where they don't fit."""
+    found = []
     is_one = sum(number not in lengths for number in left) == 1
     rest = len(data) - sum(2 + lengths.get(number, 0) for number in left)
     at = 0

@@ -4,14 +4,14 @@ is proved."""
 from collections import defaultdict
 from dataclasses import dataclass, replace
 from enum import IntEnum
-from itertools import permutations
+from itertools import chain, permutations
 from typing import Callable, Hashable, Iterable, Optional
 
+import uds_rules
 from learn_judge import Exchange
 from learn_model import Held, Walk, is_done, one_round, session_of, sub_of, values_in
 from learn_setup import Row, Seen, Unit, setup_text
 from uds_names import SERVICES
-from uds_rules import items_of
 
 # limits of rows
 MOST_ITEMS, MOST_BYTES, MOST_TEMPLATES, MOST_ALL_TEMPLATES, MOST_ROWS = 64, 4095, 4096, 65536, 1024
@@ -108,8 +108,8 @@ def pattern_of(requests: list[bytes]) -> str:
 
 def shortened(pattern: str, templates: list[str]) -> str:
     """A pattern that lets more bytes follow, without the bytes at its end that may be any and that no template names."""
-    items = items_of(pattern.removesuffix("*"))
-    named = max((int(it[1], 16) for text in templates for it in items_of(text) if it[0] == "$"), default=0)
+    items = uds_rules.items_of(pattern.removesuffix("*"))
+    named = max((int(it[1], 16) for text in templates for it in uds_rules.items_of(text) if it[0] == "$"), default=0)
     while pattern.endswith("*") and items[-1] == ".." and len(items) > named + 1:
         items.pop()
     return "".join(items) + "*" * pattern.endswith("*")
@@ -118,7 +118,7 @@ def shortened(pattern: str, templates: list[str]) -> str:
 def template_of(cases: list[Case]) -> Optional[str]:
     """The one template that gives all answers: bytes that they have in common, or that their requests have at one place;
     None where there is none."""
-    answers = [items_of(it.answer) for it in cases]
+    answers = [uds_rules.items_of(it.answer) for it in cases]
     if len(set(map(len, answers))) > 1 or len(answers[0]) > MOST_BYTES:
         return None
     items = [template_byte(cases, answers, at) for at in range(len(answers[0]))]
@@ -320,15 +320,42 @@ def by_session(unit: Unit, cases: list[Case], differed: set[Held]) -> list[Row]:
     return [row for held in by_held if held in wanted for row in in_order(unit, by_held[held], held)]
 
 
+class Deciding:
+    """Which requests some rows decide, in which session and behind which level."""
+
+    def __init__(self, rows: list[Row]) -> None:
+        self.exact, self.wide = defaultdict(list), defaultdict(list)
+        for it in rows:
+            items, is_open = uds_rules.pattern_of(it.request)
+            if is_open or None in items:
+                self.wide[items[0]].append((items, is_open, it))
+            else:
+                self.exact[bytes(items)].append(it)
+
+    def __call__(self, case: Case) -> bool:
+        own = (row for items, is_open, row in self.wide[case.request[0]] if uds_rules.fits(items, is_open, case.request))
+        return any(it.session in (0, case.held.session) and it.level in (0, case.held.level) for it in chain(self.exact[case.request], own))
+
+
 def late_rows(unit: Unit, cases: list[Case], rows: list[Row]) -> list[Row]:
-    """Rows that leave the answer to the server, and delay it: for requests with response pending that have no row."""
-    fitted = {it.request for it in rows}
-    late = grouped((it for it in cases if any(own.pendings and own.wait for own in it.all)), late_pattern)
+    """Rows that leave the answer to the server, and delay it: for requests with response pending that no other row decides. They
+    are for the sessions and levels in which the answer was late, where it was prompt in others."""
+    is_decided = Deciding(rows)
+    late = grouped((it for it in cases if is_late(it) and not is_decided(it)), late_pattern)
+    others = (it for it in cases if it.answer and not is_late(it) and late_pattern(it) in late)
+    prompt = grouped((it for it in others if not is_decided(it)), late_pattern)
     found = []
     for pattern, own in late.items():
-        if pattern not in fitted:
-            found.append(Row(pattern, None, after=after_of(unit, own), seen=seen_of(own)))
-    return sorted(found, key=lambda it: ("*" in it.request, it.request))
+        by_held = grouped(own, lambda it: it.held)
+        is_one = all(it.held in by_held for it in prompt[pattern])
+        for held, part in {ANY: own}.items() if is_one else by_held.items():
+            found.append(Row(pattern, None, held.session, held.level, after=after_of(unit, part), seen=seen_of(part)))
+    return sorted(found, key=lambda it: ("*" in it.request, it.request, it.level == 0, it.session))
+
+
+def is_late(case: Case) -> bool:
+    """Whether the answer came behind response pending."""
+    return any(it.pendings and it.wait for it in case.all)
 
 
 def late_pattern(case: Case) -> str:

@@ -9,6 +9,8 @@ from uds_names import IDENTIFIERS, refusal, service_name, sub_name
 
 # the times of links that a setup has where it says nothing
 N_CR, N_BS, LONGEST = 1000, 1000, 4095
+# the least that a setup may have as the longest request
+SHORTEST = 8
 
 
 @dataclass
@@ -29,7 +31,7 @@ class Seen:
 @dataclass
 class Did:
     """An identifier: its value as the recording begins, and as it is now; whether it is written and behind which levels;
-    and whether it was read with other values than it had by then."""
+    and whether it was read with other values than it had by then, and with how many bytes."""
 
     value: bytes
     now: bytes
@@ -38,6 +40,7 @@ class Did:
     read_level: int = 0
     write_level: int = 0
     changes: bool = False
+    sizes: set[int] = field(default_factory=set)
 
 
 @dataclass
@@ -159,8 +162,7 @@ def unit_keys(unit: Unit) -> Iterator[str]:
     yield f"p2_ms = {unit.p2}\np2_star_10ms = {unit.p2_star // 10}\ns3_ms = {unit.s3}\n"
     yield from waits(sending)
     yield f"block_size = {sending.block_size}\nst_min = 0x{sending.st_min:02X}\n"
-    if sending.longest > LONGEST:
-        yield f"max_request = {min(sending.longest, 65535)}\n"
+    yield from longest_request(sending)
     yield from filling(unit)
     yield f"availability = 0x{unit.availability:02X}\n"
     if unit.functional is not None or any(FUNCTIONAL in (it.request, it.response) for it in unit.pairs if not it.is_extended):
@@ -179,6 +181,15 @@ def filling(unit: Unit) -> Iterator[str]:
         # (with the greatest length all SingleFrames are as they were seen)
         yield f"tx_dl = {sending.tx_dl}\n" if sending.tx_dl else f"tx_dl = {LENGTHS[-1]}  # no FirstFrame told it\n"
         yield f"fd_flags = 0x{sending.flags:X}\n"
+
+
+def longest_request(sending: Sending) -> Iterator[str]:
+    """The longest request that the unit takes, where that isn't the usual one: as long as one that it took, or, where it refused
+    one as too long, a byte shorter than that."""
+    if sending.too_long is not None and sending.too_long <= LONGEST:
+        yield f"max_request = {max(sending.too_long - 1, SHORTEST)}\n"
+    elif sending.longest > LONGEST:
+        yield f"max_request = {min(sending.longest, 65535)}\n"
 
 
 def waits(sending: Sending) -> Iterator[str]:
