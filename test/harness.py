@@ -2,6 +2,7 @@
 'N passed, M failed'. Whoever imports this finds the modules of tools/ and dev/, too. No part of what is proved."""
 import glob
 import os
+import subprocess
 import sys
 import tempfile
 from dataclasses import dataclass
@@ -12,6 +13,11 @@ PROGRAM = f"{TOP}/crates/uds_play/out/uds_play"
 # where Debian's packages for Python stand, for a Python that isn't Debian's
 DEBIAN = "/usr/lib/python3/dist-packages"
 sys.path += [f"{TOP}/tools", f"{TOP}/tools/parts", f"{TOP}/dev"]
+
+
+def run_without(number, words, **more):
+    """Runs a command, with the standard stream of this number closed, and the others as bytes."""
+    return subprocess.run(["sh", "-c", f'exec "$@" {number}>&-', "sh", *words], capture_output=True, timeout=120, **more)
 
 
 def is_built(program=PROGRAM):

@@ -9,7 +9,7 @@ import sys
 import xml.etree.ElementTree as ElementTree
 from typing import Iterator
 
-from harness import DEBIAN, PROGRAM, TOP, Tally, cases
+from harness import DEBIAN, PROGRAM, TOP, Tally, cases, run_without
 import packages
 
 TOOL = f"{TOP}/tools/junit.py"
@@ -146,6 +146,16 @@ def of_the_end() -> None:
     with open("/dev/full", "wb") as full:
         ran = subprocess.run([sys.executable, TOOL], input=TEXTS[0][1].encode(), stdout=full, stderr=subprocess.PIPE, timeout=60)
     told((ran.returncode, ran.stderr) == (7, b"junit: cannot write: No space left on device\n"), "a full device", ran)
+    ran = run_without(1, [sys.executable, TOOL], input=TEXTS[0][1].encode())
+    told((ran.returncode, ran.stderr) == (7, b"junit: cannot write: standard output is closed\n"), "a closed output", ran)
+    ran = run_without(0, [sys.executable, TOOL])
+    told((ran.returncode, ran.stderr, b"lines are missing" in ran.stdout) == (3, b"", True), "a closed input", ran)
+    ran = run_without(2, [sys.executable, TOOL], input=b"junk\n")
+    told((ran.returncode, ran.stdout.splitlines()[-1:]) == (3, [b"</testsuites>"]), "a closed error", ran)
+    for coding in ("utf-8:strict", "latin-1:strict", "ascii:strict"):
+        words = [sys.executable, TOOL]
+        ran = subprocess.run(words, input=b"\xff\xc3\xa4\n", capture_output=True, env={**os.environ, "PYTHONIOENCODING": coding}, timeout=60)
+        told((ran.returncode, "none of compare's: \ufffd\u00e4<" in ran.stdout.decode()) == (3, True), f"a locale of {coding}", ran)
     ran = subprocess.run([sys.executable, TOOL, "file"], stdin=subprocess.DEVNULL, capture_output=True, timeout=60)
     told(ran.returncode == 1 and ran.stdout == b"" and b"It reads standard input" in ran.stderr, "a word too many", ran)
 

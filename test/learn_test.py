@@ -20,7 +20,7 @@ from contextlib import redirect_stderr, redirect_stdout
 from dataclasses import dataclass, field
 from typing import Callable, Iterator, Optional
 
-from harness import DEBIAN, TOP, Tally
+from harness import DEBIAN, TOP, Tally, run_without
 import learn
 import learn_bus
 import live
@@ -579,6 +579,7 @@ class OfTheBus(unittest.TestCase):
         self.assertEqual(learn_bus.Pair(0x7E0, 0x7E8, False, "shop"), learn_bus.pair_of("7E0:7E8=shop"))
         self.assertEqual(learn_bus.Pair(0x7E0, 0x7E8, False, "shop", True), learn_bus.pair_of("7E0:7E8:fd=shop"))
         self.assertEqual(learn_bus.Pair(0x7E0, 0x7E8, False, "Shop", True), learn_bus.pair_of("7e0:7e8:FD=Shop"))
+        self.assertEqual(learn_bus.Pair(0x18DA10F1, 0x18DAF110, True), learn_bus.pair_of("0x18DA10F1:0x18DAF110"))
         for text in ("7E0", "7E0:18DAF110", "7E0:x", "7:8", "7E0:7E8:f", "7E0:7E8=a b", f"7E0:7E8={'a' * 17}", "7E0:7E8=\u017fhop", "7E0:7E8=\u212a"):
             self.assertRaises(ValueError, learn_bus.pair_of, text)
 
@@ -1063,6 +1064,28 @@ class OfRecordings(unittest.TestCase):
         for identifier, lines in (("700", narrow), ("18DBFFF1", wide), ("700", narrow + wide), ("18DBFFF1", narrow + wide)):
             self.assertNotIn("functional", self.told(lines, "--functional", identifier)[1])
 
+    def test_a_pair_that_is_given_as_one_of_can_fd(self) -> None:
+        told = "learn: the pair 7E0:7E8 is given as one of CAN FD, and no such frame of it is in the recording\n"
+        for mark, wanted in (("#", told), ("##1", "")):
+            found = learned_of(frames((0, f"7E0{mark}023E00"), (3, f"7E8{mark}027E00")), "--pair", "7E0:7E8:fd")
+            self.assertEqual((0, wanted, True), (found.status, found.told, found.tree()["tester"][0]["fd"]))
+
+    def test_closed_streams(self) -> None:
+        words = [sys.executable, learn.__file__, *OPTIONS]
+        for number, path, want in ((0, "-", b"standard input is closed"), (1, f"{TOP}/demo/bus.log", b"cannot write: standard output is closed")):
+            ran = run_without(number, [*words, "--pair", "7E0:7E8", path])
+            self.assertEqual((7, b"learn: " + want + b"\n"), (ran.returncode, ran.stderr))
+        # (what is told doesn't get into the setup)
+        ran = run_without(2, [*words, f"{TOP}/demo/bus.log"])
+        self.assertEqual((0, learned(f"{TOP}/demo/bus.log").text), (ran.returncode, ran.stdout.decode()))
+
+    def test_a_setup_is_utf_8_whatever_the_locale_is(self) -> None:
+        with tempfile.TemporaryDirectory() as room:
+            path = put(f"{room}/B\u00fcs.log", frames((0, "7E0#023E00"), (3, "7E8#027E00")))
+            for coding in ("latin-1", "ascii", "utf-8"):
+                ran = subprocess.run([sys.executable, learn.__file__, *OPTIONS, path], capture_output=True, env={**os.environ, "PYTHONIOENCODING": coding})
+                self.assertEqual((0, "# The unit of B\u00fcs.log, "), (ran.returncode, ran.stdout.decode()[:23]), coding)
+
     def test_a_full_device(self) -> None:
         ran = subprocess.run([sys.executable, learn.__file__, *OPTIONS, f"{TOP}/demo/bus.log"], stdout=open("/dev/full", "wb"), stderr=subprocess.PIPE)
         self.assertEqual((7, True), (ran.returncode, ran.stderr.endswith(b"learn: cannot write: No space left on device\n")), ran.stderr)
@@ -1126,7 +1149,7 @@ class OfOtherForms(unittest.TestCase):
         with tempfile.TemporaryDirectory() as room:
             found = learned(f"{room}/none.db")
             self.assertEqual((7, "", []), (found.status, found.text, os.listdir(room)))
-            self.assertIn("No such file", found.told)
+            self.assertEqual(f"learn: {room}/none.db: No such file or directory\n", found.told)
 
     def test_a_recording_without_frames_is_told(self) -> None:
         with tempfile.TemporaryDirectory() as room:

@@ -15,7 +15,7 @@ import subprocess
 import sys
 import tempfile
 
-from harness import PROGRAM, TOP, Tally, cases
+from harness import PROGRAM, TOP, Tally, cases, run_without
 import browser
 import bus
 import examples
@@ -467,6 +467,24 @@ def faults(room):
     for name, setup in forms:
         ran = subprocess.run([VIEW, "--text", setup, "-"], input=journal.encode(), capture_output=True, timeout=60)
         told((ran.returncode, ran.stdout) == (0, b"0.000 A  3E 00 TesterPresent zeroSubFunction -> 7E 00\n"), name, ran)
+    streams(room, config, journal)
+
+
+def streams(room, config, journal):
+    """A stream that is closed, or doesn't take what is written, is told in a line; so is a file that isn't there."""
+    words, path = [sys.executable, VIEW, "--text", config], put(f"{room}/journal", journal)
+    with open("/dev/full", "wb") as full:
+        ran = subprocess.run([*words, path], stdout=full, stderr=subprocess.PIPE, timeout=60)
+    told((ran.returncode, ran.stderr) == (1, b"view: cannot write: No space left on device\n"), "a full device", ran)
+    for number, more, want in ((0, "-", b"standard input is closed"), (1, path, b"cannot write: standard output is closed")):
+        ran = run_without(number, [*words, more])
+        told((ran.returncode, ran.stderr) == (1, b"view: " + want + b"\n"), f"stream {number} is closed", ran)
+    ran = run_without(2, [*words, put(f"{room}/nothing", "")])
+    told((ran.returncode, ran.stdout) == (0, b""), "stream 2 is closed", ran)
+    ran = subprocess.run([*words, f"{room}/none"], capture_output=True, timeout=60)
+    told((ran.returncode, ran.stderr.decode()) == (1, f"view: {room}/none: No such file or directory\n"), "a file that isn't there", ran)
+    ran = subprocess.run([*words, "-", "-"], input=journal.encode(), capture_output=True, timeout=60)
+    told(ran.returncode == 1 and b"standard input can be read once" in ran.stderr, "standard input twice", ran)
 
 
 # ---- the pages, in Chromium

@@ -22,6 +22,7 @@ sys.dont_write_bytecode = True
 sys.path.append(os.path.join(os.path.dirname(os.path.abspath(__file__)), "parts"))
 import uds_words
 from uds_compared import FAULT, NOT_COMPARED, NOTHING, Compared, Report, read_report
+from uds_streams import CannotWrite, input_lines, ready, write_out
 
 CANNOT_WRITE = 7
 # the most digits of a message in the name of a test case
@@ -142,16 +143,15 @@ def xml_of(report: Report) -> Lines:
 
 
 def main() -> int:
+    ready()
     if sys.argv[1:]:
         print(__doc__, file=sys.stderr)
         return 0 if sys.argv[1] in ("-h", "--help") else 1
-    report = read_report(sys.stdin)
+    report = read_report(input_lines())
     try:
-        print("\n".join(xml_of(report)), flush=True)
-    except OSError as fault:
-        print(f"junit: cannot write: {fault.strerror}", file=sys.stderr)
-        # (what is left isn't tried again at the exit)
-        sys.stdout = None
+        write_out(f"{it}\n" for it in xml_of(report))
+    except CannotWrite as fault:
+        print(f"junit: {fault}", file=sys.stderr)
         return CANNOT_WRITE
     if report.stray:
         print(f"junit: {printable(errors_of(report)[0])}", file=sys.stderr)

@@ -35,6 +35,7 @@ from learn_judge import AGREES, BAD_SETUP, DIFFERS, NOTHING, Exchange, Judge, Pr
 from learn_model import learn_model
 from learn_rows import MOST_BYTES, Plan
 from learn_setup import Unit, is_apart, setup_text, why_apart
+from uds_streams import CannotWrite, fault_words, input_bytes, ready, write_out
 
 TOP = os.path.dirname(os.path.dirname(os.path.abspath(__file__)))
 PROGRAM = f"{TOP}/crates/uds_play/out/uds_play"
@@ -94,7 +95,7 @@ def converted(path: str, room: str) -> str:
     """The path of the recording in the form of `candump -L`."""
     if path == "-":
         with open(f"{room}/capture.log", "wb") as out:
-            shutil.copyfileobj(sys.stdin.buffer, out)
+            shutil.copyfileobj(input_bytes(), out)
         return f"{room}/capture.log"
     if not path.lower().endswith(OTHERS):
         return path
@@ -258,12 +259,9 @@ def refused(fault: Refused) -> int:
 def is_printed(setup: str) -> bool:
     """Prints a setup; whether it could be written."""
     try:
-        sys.stdout.write(setup)
-        sys.stdout.flush()
-    except OSError as fault:
-        say(f"cannot write: {fault.strerror}")
-        # (what is left isn't tried again at the exit)
-        sys.stdout = None
+        write_out([setup])
+    except CannotWrite as fault:
+        say(str(fault))
         return False
     return True
 
@@ -290,6 +288,9 @@ def unit_of(path: str, given: list[Pair], words: argparse.Namespace, progress: P
     pairs = [sight.joined(it) for it in testers_of(given, pairs_of(sight))]
     if not pairs:
         raise NoTester
+    for it in pairs:
+        if it.is_fd and sight.by_fd.isdisjoint(it.texts()):
+            say(f"the pair {it.shown()} is given as one of CAN FD, and no such frame of it is in the recording")
     narrow, wide = functional_of(sight, pairs), functional_of(sight, pairs, True)
     if functional is not None:
         is_wide = functional > MOST_OF_11_BITS
@@ -339,6 +340,7 @@ def arguments(given: Optional[list[str]]) -> argparse.Namespace:
 
 def main(given: Optional[list[str]] = None) -> int:
     """Runs the tool by these words, or by those of the command line; returns its status."""
+    ready()
     words, progress = arguments(given), Progress()
     words.program = words.program or program()
     if not os.access(words.program, os.X_OK):
@@ -363,7 +365,7 @@ def main(given: Optional[list[str]] = None) -> int:
             say(str(fault))
             return NOTHING
         except OSError as fault:
-            say(str(fault))
+            say(fault_words(fault))
             return 7
         except ImportError:
             say("this form of recording wants python-can (Debian's python3-can)")

@@ -24,6 +24,7 @@ from uds_compared import is_report, read_report
 from uds_names import service_name
 from uds_rules import pending
 from uds_run import ONE_FRAME, Held, Session, Wrong, messages, read_run, read_setup, waits
+from uds_streams import fault_words, input_bytes, ready, write_out
 from uds_words import answer_words, changes, due_words, held_words, message_words, request_words, seconds
 from view_exchanges import exchanges_data, exchanges_text
 
@@ -282,7 +283,7 @@ def page(data, name="page"):
 
 
 def read(path):
-    with sys.stdin.buffer if path == "-" else open(path, "rb") as it:
+    with input_bytes() if path == "-" else open(path, "rb") as it:
         return it.read().decode("utf-8", "replace")
 
 
@@ -294,18 +295,18 @@ def read_lines(path):
 def show_run(setup, run, title, as_text):
     """Writes a run, as text or as a page."""
     if as_text:
-        sys.stdout.writelines((journal_text if "journal" in run.shows else frames_text)(setup, run))
+        write_out((journal_text if "journal" in run.shows else frames_text)(setup, run))
     else:
-        sys.stdout.write(page(page_data(setup, run, title)))
+        write_out([page(page_data(setup, run, title))])
 
 
 def show_exchanges(setup, name, text, title, as_text):
     """Writes what `compare` wrote, as text or as a page."""
     report = read_report(text.splitlines())
     if as_text:
-        sys.stdout.writelines(exchanges_text(setup, report, name))
+        write_out(exchanges_text(setup, report, name))
     else:
-        sys.stdout.write(page(exchanges_data(setup, report, name, title), "exchanges"))
+        write_out([page(exchanges_data(setup, report, name, title), "exchanges")])
 
 
 def file_name(path):
@@ -328,12 +329,15 @@ class CommandLine(argparse.ArgumentParser):
 
 def main(given=None):
     """Runs the tool by these words, or by those of the command line; returns its status."""
+    ready()
     words = CommandLine(description=__doc__, formatter_class=argparse.RawDescriptionHelpFormatter)
     words.add_argument("--text", action="store_true", help="the journal in words, in place of the page")
     words.add_argument("--title", metavar="TEXT", help="the page's title, where it isn't the names of the files")
     words.add_argument("setup", metavar="SETUP")
     words.add_argument("run", metavar="RUN", nargs="+")
     given = words.parse_args(given)
+    if [given.setup, *given.run].count("-") > 1:
+        words.error("standard input can be read once: more than one file is -")
     title = given.title or " ".join(file_name(it) for it in given.run)
     try:
         setup = read_setup(read(given.setup))
@@ -344,7 +348,7 @@ def main(given=None):
         else:
             show_run(setup, read_run(setup, texts), title, given.text)
     except (Wrong, OSError) as fault:
-        print(f"view: {fault}", file=sys.stderr)
+        print(f"view: {fault if isinstance(fault, Wrong) else fault_words(fault)}", file=sys.stderr)
         return 1
     return 0
 

@@ -14,7 +14,7 @@ LEAST_ANSWERS, LEAST_PART = 2, 0.5
 # the most testers of a setup
 MOST_TESTERS = 8
 PAIR = re.compile(
-    r"(?P<request>[0-9A-F]{3}|[0-9A-F]{8}):(?P<response>[0-9A-F]{3}|[0-9A-F]{8})(?P<fd>:fd)?(?:=(?P<name>[A-Za-z0-9_]{1,16}))?",
+    r"(?:0x)?(?P<request>[0-9A-F]{3}|[0-9A-F]{8}):(?:0x)?(?P<response>[0-9A-F]{3}|[0-9A-F]{8})(?P<fd>:fd)?(?:=(?P<name>[A-Z0-9_]{1,16}))?",
     re.IGNORECASE | re.ASCII,
 )
 # how a SingleFrame or a FirstFrame begins, one of more than 8 bytes too; and how long the frames of a long message may be
