@@ -55,6 +55,10 @@ class BusTests(unittest.TestCase):
         self.ask("0322F195")
         self.assertEqual(self.hear(), "7E8#0562F1950405CCCC")
         self.assertEqual((self.unit.values[0xF195], self.unit.codes[0xC10000]), (b"\x04\x05", 0x2F))
+        # (what would set nothing of the unit isn't taken)
+        for items in (self.unit.values, self.unit.codes):
+            with self.assertRaises(TypeError):
+                items[0xF195] = b"\x06\x07"
         self.unit.stop()
         self.assertIn(" 1 P 22F195 62F1950405\n", self.unit.journal())
 

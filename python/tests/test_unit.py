@@ -1,10 +1,15 @@
 """Tests of `uds_unit.Unit`: what it answers, and each fault. They want nothing but the library."""
+import copy
+import importlib.util
 import os
+import pickle
 import tempfile
 import threading
 import unittest
 from array import array
 from datetime import datetime, time, timedelta, timezone
+from decimal import Decimal
+from fractions import Fraction
 from pathlib import Path
 
 from uds_unit import ClosedFault, Frame, FrameFault, SetupFault, Unit, UnitFault, toml
@@ -76,6 +81,71 @@ class UnitTests(unittest.TestCase):
             unit.frame(0.0, 0x7E0, EXTENDED)
             unit.advance(century)
             self.assertEqual(unit.session, "default")
+
+    def test_a_first_moment_below_zero(self) -> None:
+        for first, later, due in ((-2.0, -1.99, -1.98), (-2.0005, -1.9996, -1.99)):
+            with Unit(SETUP, journal=True) as unit:
+                self.assertEqual([it.time for it in unit.frame(first, 0x7E0, bytes.fromhex("0322F190"))], [-2.0 if first == -2.0 else -2.001])
+                self.assertEqual([it.data[0] for it in unit.frame(later, 0x7E0, bytes.fromhex("30000A"))], [0x21])
+                self.assertEqual(unit.due, due)
+                self.assertEqual([it.time for it in unit.advance(due)], [due])
+                unit.advance(3.0)
+                self.assertEqual(unit.journal().splitlines()[-1].split()[0], "5000" if first == -2.0 else "5001")
+        # (a frame that there isn't tells no moment)
+        with Unit(SETUP) as unit:
+            with self.assertRaises(FrameFault):
+                unit.frame(-9.0, 0x7E0, bytes(9))
+            self.assertEqual([it.time for it in unit.frame(-1.0, 0x7E0, EXTENDED)], [-1.0])
+            self.assertEqual([it.time for it in unit.frame(-3.0, 0x7E0, EXTENDED)], [-1.0])
+
+    def test_what_is_no_moment(self) -> None:
+        for wrong in (float("nan"), float("inf"), float("-inf")):
+            with self.assertRaisesRegex(ValueError, "finite number of seconds"):
+                self.unit.advance(wrong)
+        for wrong in ("1", None, timedelta(seconds=1)):
+            with self.assertRaisesRegex(TypeError, "real number"):
+                self.unit.frame(wrong, 0x7E0, EXTENDED)
+        for good in (Decimal("1.5"), Fraction(3, 2), 1.5):
+            self.assertEqual(self.unit.frame(good, 0x7E0, EXTENDED)[0].time, 1.5)
+
+    @unittest.skipUnless(importlib.util.find_spec("numpy"), "numpy isn't installed")
+    def test_numbers_of_numpy(self) -> None:
+        import numpy
+
+        data = numpy.frombuffer(EXTENDED, dtype=numpy.uint8)
+        for second, kind in enumerate((numpy.int16, numpy.uint32, numpy.int64, numpy.float32, numpy.float64), 3000):
+            for id in (numpy.int16(0x7E0), numpy.uint32(0x7E0), numpy.int64(0x7E0)):
+                self.assertEqual([it.time for it in self.unit.frame(kind(second), id, data)], [second])
+        self.unit.values[numpy.uint16(0xF195)] = numpy.array([4, 5], dtype=numpy.uint8)
+        self.unit.codes[numpy.int32(0xC10000)] = numpy.uint8(0x2F)
+        self.assertEqual((self.unit.values[numpy.int32(0xF195)], self.unit.codes[0xC10000]), (b"\x04\x05", 0x2F))
+
+    def test_it_can_not_be_copied(self) -> None:
+        """A copy would free what is the unit's."""
+        for make in (copy.copy, copy.deepcopy, pickle.dumps):
+            with self.assertRaisesRegex(TypeError, "a unit can't be copied or pickled"):
+                make(self.unit)
+        frames = self.unit.frame(0.0, 0x7E0, EXTENDED)
+        self.assertEqual((frames[0].data[0], pickle.loads(pickle.dumps(frames))), (6, frames))
+
+    def test_what_is_no_number(self) -> None:
+        for wrong in ("7E0", 2016.0, None):
+            with self.assertRaisesRegex(TypeError, "interpreted as an integer"):
+                self.unit.frame(0.0, wrong, EXTENDED)
+            with self.assertRaisesRegex(TypeError, "interpreted as an integer"):
+                self.unit.codes[0xC10000] = wrong
+            for items in (self.unit.values, self.unit.codes):
+                self.assertNotIn(wrong, items)
+                with self.assertRaises(KeyError):
+                    items[wrong]
+                with self.assertRaises(KeyError):
+                    items[wrong] = b"\0\0" if items is self.unit.values else 0
+
+    def test_hex_digits_are_no_bytes(self) -> None:
+        with self.assertRaisesRegex(TypeError, "bytes.fromhex makes bytes of hex digits"):
+            self.unit.frame(0.0, 0x7E0, "021003")
+        with self.assertRaisesRegex(TypeError, "bytes.fromhex makes bytes of hex digits"):
+            self.unit.values[0xF195] = "0405"
 
     def test_items_of_other_widths(self) -> None:
         wide = array("q", list(EXTENDED))
@@ -159,6 +229,8 @@ class UnitTests(unittest.TestCase):
             (0x20000000, b"", True, f"{number}0x20000000$"),
             (-1, b"", False, f"{number}-0x1$"),
             (1 << 40, b"", False, f"{number}0x10000000000$"),
+            (0x98DA10F1, b"", False, f"{number}0x98da10f1$"),
+            (0x98DA10F1, b"", True, f"{number}0x98da10f1$"),
         ]
         for id, data, extended, text in wrong:
             with self.assertRaisesRegex(FrameFault, text):
@@ -224,6 +296,10 @@ class SetupTests(unittest.TestCase):
             self.assertIsInstance(told.exception, UnitFault)
         with self.assertRaises(OSError):
             Unit("no_such_file.toml")
+        # (a number is no file that is open)
+        for wrong in (0, True, None, bytearray(b"")):
+            with self.assertRaisesRegex(TypeError, "expected str, bytes or os.PathLike object"):
+                Unit(wrong)
 
     def test_too_long(self) -> None:
         most = SETUP.read_bytes().ljust(1_048_576)

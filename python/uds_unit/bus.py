@@ -3,6 +3,7 @@ import os
 import threading
 import time
 from collections.abc import Mapping
+from types import MappingProxyType
 from typing import Self
 
 import can
@@ -17,7 +18,8 @@ BREATH = 0.0005
 
 
 class UnitBus:
-    """A unit of a setup on a bus, in a thread of its own from `start` (or `with`) to `stop`. The bus stays the caller's.
+    """A unit of a setup on a bus, in a thread of its own from `start` (or `with`) to `stop`. The bus stays the caller's, but
+    while the thread runs nobody else reads from it: a Notifier, as any tester, wants a bus of its own on the channel.
 
     The unit's time is the machine's monotonic clock. Where a frame goes late, all that is due behind it goes as much later,
     until nothing is waited for: so two frames are never nearer to each other than their separation time. A frame that the bus
@@ -87,17 +89,17 @@ class UnitBus:
 
     @property
     def codes(self) -> Mapping[int, int]:
-        """The DTCs with their status, as they are now."""
+        """The DTCs with their status, as they are now; `set_code` sets one."""
         with self._lock:
             self._look()
-            return dict(self._unit.codes)
+            return MappingProxyType(dict(self._unit.codes))
 
     @property
     def values(self) -> Mapping[int, bytes]:
-        """The values of the data identifiers, as they are now."""
+        """The values of the data identifiers, as they are now; `set_value` sets one."""
         with self._lock:
             self._look()
-            return dict(self._unit.values)
+            return MappingProxyType(dict(self._unit.values))
 
     def set_value(self, id: int, value: bytes) -> None:
         """Sets the value of a data identifier, as the ECU's own software does."""

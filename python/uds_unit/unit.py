@@ -3,6 +3,8 @@ import os
 import threading
 from collections.abc import Iterator, MutableMapping
 from ctypes import byref, c_size_t, c_uint16, c_uint64, create_string_buffer
+from math import isfinite
+from operator import index
 from typing import Any, NamedTuple, NoReturn, Self
 
 from . import library, toml
@@ -46,7 +48,8 @@ def read_setup(setup: str | os.PathLike[str] | bytes) -> bytes:
     if isinstance(setup, bytes):
         config = setup
     else:
-        with open(setup, "rb") as file:
+        # (a number would be a file that is open)
+        with open(os.fspath(setup), "rb") as file:
             config = file.read(MOST_SETUP + 1)
     if len(config) > MOST_SETUP:
         raise SetupFault("config: too long")
@@ -62,9 +65,12 @@ def _tables(config: bytes) -> dict[str, Any]:
 
 
 def _raw(data: bytes) -> bytes:
-    """These bytes. TypeError where an item has more than one, as those of an array may."""
+    """These bytes. TypeError where an item has more than one, as those of an array may, and of a text."""
+    if isinstance(data, str):
+        raise TypeError("bytes wanted, and no text: bytes.fromhex makes bytes of hex digits")
+    length = len(data)
     raw = bytes(data)
-    if len(raw) != len(data):
+    if len(raw) != length:
         raise TypeError("bytes wanted, one item each")
     return raw
 
@@ -90,20 +96,23 @@ def _fd_requests(setup: dict[str, Any]) -> Iterator[tuple[int, bool]]:
 class Unit:
     """A unit of a setup, to which nothing has happened yet. It reads no clock: time is what the caller says, in seconds from
     any zero. The first moment that it is given is where its time begins. Threads may share a unit: it takes one call at a time.
+    It can't be copied.
 
     `setup` is the path of a setup in TOML, or the bytes of one. With `journal` the unit keeps the lines of its journal
     until `journal()` hands them out.
 
     Raises SetupFault where the setup is at fault, OSError where it or the library can't be read, MemoryFault. A step of
-    time of more than 100 years is a ValueError.
+    time of more than 100 years is a ValueError, and so is a moment that isn't finite.
     """
 
     def __init__(self, setup: str | os.PathLike[str] | bytes, *, journal: bool = False) -> None:
         self._library = library.load()
         # (a signal's handler may call the unit, too, in the middle of a call)
         self._lock = threading.RLock()
-        # the latest moment, in microseconds; negative before the first
+        # the latest moment, in microseconds of the library's; negative before the first
         self._latest = -1
+        # what these are ahead of the caller's, whose first moment may be negative
+        self._ahead = 0
         self._handle = Handle()
         self._at = byref(self._handle)
         self._reply = Reply()
@@ -145,6 +154,10 @@ class Unit:
         if hasattr(self, "_at"):
             self.close()
 
+    def __reduce__(self) -> NoReturn:
+        # (a copy would have the same handle, and free it)
+        raise TypeError("a unit can't be copied or pickled")
+
     def frame(self, time: float, id: int, data: bytes, *, extended: bool = False) -> list[Frame]:
         """Takes a frame of the bus at a moment in seconds, and returns the frames that are due up to then, in the bus's order.
         An earlier moment is taken as the latest so far. `id` has 11 bits, or with `extended` 29 bits. The frame has 0 to 8, 12,
@@ -153,17 +166,18 @@ class Unit:
 
         Raises FrameFault where no frame has this identifier, or so many bytes; then nothing was taken.
         """
-        raw = _raw(data)
-        number = id | EXTENDED if extended else id
-        if not 0 <= number <= 0xFFFFFFFF:
-            raise FrameFault(_no_frame(id, extended, len(raw)))
+        raw, number = _raw(data), index(id)
+        if not 0 <= number <= LOW_29:
+            raise FrameFault(_no_frame(number, extended, len(raw)))
+        if extended:
+            number |= EXTENDED
         with self._lock:
             at = self._moment(time)
             status = self._frame(self._at, at, number, raw, len(raw))
             if status == DONE:
                 return self._due(at)
         if status == NO_FRAME:
-            raise FrameFault(_no_frame(id, extended, len(raw)))
+            raise FrameFault(_no_frame(index(id), extended, len(raw)))
         self._raise(status)
 
     def advance(self, time: float) -> list[Frame]:
@@ -179,7 +193,7 @@ class Unit:
         waited for."""
         at = c_uint64()
         self._check(self._call("due", byref(at)))
-        return None if at.value == NEVER else at.value / MICRO
+        return None if at.value == NEVER else (at.value - self._ahead) / MICRO
 
     @property
     def session(self) -> str:
@@ -215,8 +229,15 @@ class Unit:
             return getattr(self._library, f"uds_unit_{name}")(self._at, *arguments)
 
     def _moment(self, time: float) -> int:
-        """A moment in microseconds."""
-        at = min(max(round(time * MICRO), 0), NEVER)
+        """A moment in the library's microseconds."""
+        if not isfinite(time):
+            raise ValueError(f"a moment is a finite number of seconds, and not {time}")
+        # (a number of NumPy's may have few bits)
+        at = round(float(time) * MICRO)
+        if self._latest < 0:
+            # (by whole milliseconds, to which the library rounds)
+            self._ahead = max(-(at // 1000), 0) * 1000
+        at = min(max(at + self._ahead, 0), NEVER)
         if at - self._latest > CENTURY and self._latest >= 0:
             raise ValueError("more than 100 years at once")
         return at
@@ -226,11 +247,11 @@ class Unit:
         if at > self._latest:
             self._latest = at
         frames = []
-        reply, held, take = self._reply, self._bytes, self._next
+        reply, held, take, ahead = self._reply, self._bytes, self._next, self._ahead
         while take(self._at, self._reply_at) == DONE:
             data, id = bytes(held)[: reply.len], reply.id
             tester = self.testers[reply.tester - 1]
-            frames.append(Frame(reply.at_us / MICRO, id & LOW_29, data, tester, id >= EXTENDED, reply.fd == 1))
+            frames.append(Frame((reply.at_us - ahead) / MICRO, id & LOW_29, data, tester, id >= EXTENDED, reply.fd == 1))
         return frames
 
     def _check(self, status: int) -> None:
@@ -252,8 +273,7 @@ class Values(MutableMapping[int, bytes]):
         self._unit = unit
 
     def __getitem__(self, id: int) -> bytes:
-        unit, length, value = self._unit, c_size_t(), create_string_buffer(255)
-        _in_range(id, 0xFFFF)
+        unit, length, value, id = self._unit, c_size_t(), create_string_buffer(255), _in_range(id, 0xFFFF)
         status = unit._call("value", id, value, 255, byref(length))
         if status == UNKNOWN:
             raise KeyError(id)
@@ -261,8 +281,7 @@ class Values(MutableMapping[int, bytes]):
         return value.raw[: length.value]
 
     def __setitem__(self, id: int, value: bytes) -> None:
-        unit = self._unit
-        _in_range(id, 0xFFFF)
+        unit, id = self._unit, _in_range(id, 0xFFFF)
         raw = _raw(value)
         status = unit._call("set_value", id, raw, len(raw))
         if status == UNKNOWN:
@@ -300,8 +319,7 @@ class Codes(MutableMapping[int, int]):
         raise KeyError(code)
 
     def __setitem__(self, code: int, status: int) -> None:
-        unit = self._unit
-        _in_range(code, 0xFFFFFF)
+        unit, code, status = self._unit, _in_range(code, 0xFFFFFF), index(status)
         if not 0 <= status <= 0xFF:
             raise ValueError("no status byte")
         answer = unit._call("set_code", code, status)
@@ -327,6 +345,12 @@ class Codes(MutableMapping[int, int]):
             unit._raise(status)
 
 
-def _in_range(number: int, most: int) -> None:
+def _in_range(key: int, most: int) -> int:
+    """A key that is a number of this range. KeyError where it is none."""
+    try:
+        number = index(key)
+    except TypeError:
+        raise KeyError(key) from None
     if not 0 <= number <= most:
-        raise KeyError(number)
+        raise KeyError(key)
+    return number
