@@ -133,6 +133,24 @@ class BusTests(unittest.TestCase):
         self.assertEqual((heard.is_fd, heard.bitrate_switch, heard.error_state_indicator), (True, True, False))
         self.assertEqual((heard.arbitration_id, heard.data.hex()), (0x7E8, "001462f190" + 17 * "30" + "cccc"))
 
+    def test_frames_that_no_wire_carries(self) -> None:
+        """They don't end the unit: a virtual bus hands out what it was given."""
+        from uds_unit.bus import UnitBus
+
+        self.ask("021003" + "00" * 6)
+        self.ask("023E00")
+        self.assertEqual(self.hear(), "7E8#027E00CCCCCCCCCC")
+        self.unit.stop()
+        with UnitBus(self.far, SETUP.read_bytes().replace(b"response = 0x7E8", b"response = 0x7E8\nfd = true\nfunctional = 0x7D0")) as unit:
+            # a SingleFrame of 11 bytes has 12 on the bus
+            self.ask("000922" + "F195" * 4, is_fd=True)
+            heard = self.near.recv(2)
+            self.assertEqual(heard.data.hex(), "001162" + "f1950203" * 4 + "cc")
+            self.ask("023E00" + "00" * 62, is_fd=True)
+            self.ask("023E00", is_fd=True)
+            self.assertEqual([self.hear(), self.near.recv(0.1)], ["7E8#027E00CCCCCCCCCC", None])
+            self.assertIsNone(unit.fault)
+
     def test_a_full_queue(self) -> None:
         import can
 
@@ -284,10 +302,11 @@ class ProgramTests(unittest.TestCase):
                 self.assertTrue(line.startswith(f"uds_unit: --interface it: {type(fault).__name__}: {fault} ("), line)
                 # (no empty file is left, by which the next run would be refused)
                 self.assertFalse(Path(f"{room}/j").exists())
-        no_device = OSError("no device")
-        self.assertEqual(self.opened(classic, no_device), (1, "uds_unit: no device\n", False))
-        self.assertEqual(self.opened(classic, no_device, "--fd"), (1, "uds_unit: no device\n", True))
-        self.assertEqual(self.opened(by_fd, no_device), (1, "uds_unit: no device\n", True))
+        words = "uds_unit: --interface it --channel x: "
+        for no_device, told in ((OSError("no device"), "no device"), (OSError(19, "No such device"), "No such device")):
+            self.assertEqual(self.opened(classic, no_device), (1, f"{words}{told}\n", False))
+            self.assertEqual(self.opened(classic, no_device, "--fd"), (1, f"{words}{told}\n", True))
+            self.assertEqual(self.opened(by_fd, no_device), (1, f"{words}{told}\n", True))
 
     def test_faults(self) -> None:
         with tempfile.NamedTemporaryFile("w", suffix=".toml") as it:
@@ -297,6 +316,11 @@ class ProgramTests(unittest.TestCase):
             self.assertEqual((ran.returncode, ran.stderr), (2, "uds_unit: config: empty\n"))
         ran = self.run_program("--interface", "no_such", "--channel", "x", str(SETUP))
         self.assertEqual(ran.returncode, 1)
+        ran = self.run_program("--interface", "virtual", "--channel", "x", "no_such.toml")
+        self.assertEqual((ran.returncode, ran.stderr), (1, "uds_unit: no_such.toml: No such file or directory\n"))
+        for seconds in ("-1", "nan", "x"):
+            ran = self.run_program("--interface", "virtual", "--channel", "x", "--seconds", seconds, str(SETUP))
+            self.assertEqual((ran.returncode, "argument --seconds: " in ran.stderr), (2, True), ran.stderr)
 
 
 TESTS = '''

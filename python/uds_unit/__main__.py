@@ -17,6 +17,21 @@ if TYPE_CHECKING:
     from .bus import UnitBus
 
 
+def _seconds(text: str) -> float:
+    """A time of the command line."""
+    seconds = float(text)
+    if not seconds >= 0:
+        raise argparse.ArgumentTypeError(f"{text} is no time that passes")
+    return seconds
+
+
+def _fault_words(fault: Exception) -> str:
+    """A fault in words, with the file's name where it has one."""
+    words = getattr(fault, "strerror", None) or str(fault)
+    name = getattr(fault, "filename", None)
+    return f"{name}: {words}" if name else words
+
+
 def _arguments() -> argparse.ArgumentParser:
     parser = argparse.ArgumentParser(
         prog="python -m uds_unit",
@@ -29,7 +44,7 @@ def _arguments() -> argparse.ArgumentParser:
     parser.add_argument("--fd", action="store_true", help="opens the bus for CAN FD, even if no tester of the setup talks by it")
     parser.add_argument("--data-bitrate", type=int, help="the bit rate of the bytes of CAN FD, where the interface takes one")
     parser.add_argument("--journal", metavar="FILE", help="writes the unit's journal at the end, into a new file")
-    parser.add_argument("--seconds", type=float, help="ends after so many seconds")
+    parser.add_argument("--seconds", type=_seconds, help="ends after so many seconds")
     parser.add_argument("setup", help="the setup, a TOML file")
     return parser
 
@@ -50,7 +65,7 @@ def main(words: list[str] | None = None) -> int:
         print(f"uds_unit: {fault}", file=sys.stderr)
         return 2
     except (can.CanError, OSError, ValueError) as fault:
-        print(f"uds_unit: {fault}", file=sys.stderr)
+        print(f"uds_unit: {_fault_words(fault)}", file=sys.stderr)
         return 1
     return 0
 
@@ -96,7 +111,9 @@ def _open_bus(given: argparse.Namespace, by_fd: bool) -> "can.BusABC":
     more = {name: value for name, value in wanted.items() if value is not None}
     try:
         return can.Bus(interface=given.interface, channel=given.channel, **more)
-    except (can.CanError, OSError, ValueError):
+    except OSError as fault:
+        raise OSError(f"--interface {given.interface} --channel {given.channel}: {_fault_words(fault)}") from fault
+    except (can.CanError, ValueError):
         raise
     except Exception as fault:  # (any other kind, where a driver is missing or the arguments don't fit the interface)
         hint = "is its driver installed? Further arguments can stand in python-can's can.conf"

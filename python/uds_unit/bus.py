@@ -15,6 +15,16 @@ PATIENCE = 0.05
 # the most seconds that a frame may take to go out (N_As of ISO 15765-2), and between two tries where the adapter takes none
 N_AS = 1.0
 BREATH = 0.0005
+# how many bytes a frame of CAN FD may have
+LENGTHS = (*range(9), 12, 16, 20, 24, 32, 48, 64)
+
+
+def carried(message: can.Message) -> bytes | None:
+    """The bytes of a message as a bus carries them: of CAN FD filled with zeros to the next length that there is, as drivers do,
+    where the bus is none that has a wire. None where no frame has so many."""
+    data = bytes(message.data)
+    most = LENGTHS[-1] if message.is_fd else 8
+    return data.ljust(next(it for it in LENGTHS if it >= len(data)), b"\0") if len(data) <= most else None
 
 
 class UnitBus:
@@ -156,8 +166,8 @@ class UnitBus:
         with self._lock:
             while (due := self._unit.due) is not None and due <= self._now():
                 self._send(self._unit.advance(due))
-            if heard is not None and self._is_taken(heard):
-                self._send(self._unit.frame(self._now(), heard.arbitration_id, heard.data, extended=heard.is_extended_id))
+            if heard is not None and self._is_taken(heard) and (data := carried(heard)) is not None:
+                self._send(self._unit.frame(self._now(), heard.arbitration_id, data, extended=heard.is_extended_id))
 
     def _send(self, frames: list[Frame]) -> None:
         for frame in frames:
