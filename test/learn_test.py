@@ -517,6 +517,16 @@ class OfTheBus(unittest.TestCase):
             found = learn_bus.sending_of(self.lines(first, *(f"7E8#{it}" for it in flows)), pair)
             self.assertEqual(wanted, (found.block_size, found.st_min), flows)
 
+    def test_how_long_flow_control_took(self) -> None:
+        """Of each block, behind FlowControl wait anew; what isn't within a message doesn't count."""
+        pair, first, flow = [learn_bus.Pair(0x7E0, 0x7E8)], "7E8#101462F190414141", "7E0#300100"
+        one, two = "7E8#2141414141414141", "7E8#2241414141414141"
+        for wanted, *steps in (
+            (20, first, "123#00", flow, one, flow, two), (30, first, flow, one, "123#00", "123#00", flow, two), (20, first, "7E0#310000", "123#00", flow, one),
+            (10, first, flow, one, two, "123#00", "123#00", flow), (0, "7E8#0462F19041", "123#00", flow), (10, first, flow, two, "123#00", flow),
+        ):
+            self.assertEqual(wanted, learn_bus.sending_of(self.lines(*steps), pair).n_bs, steps)
+
     def test_requests_that_are_too_long(self) -> None:
         """The unit's flow control says so; one of the same length that it took, or said nothing to, isn't."""
         pair = [learn_bus.Pair(0x7E0, 0x7E8)]
@@ -820,6 +830,23 @@ class OfRecordings(unittest.TestCase):
         self.assertIn("learn: 2 messages of the unit break off, the first begun at 100.205: ", found.told)
         for text, lines in (("no FlowControl", long[:2]), ("the tester has no room", [*long[:2], (4, "7E0#320000")]), ("it begins within one", long[3:4])):
             self.assertNotIn("break", learned_of(frames(*lines, *long[-2:])).told, text)
+
+    def test_a_request_that_the_end_cuts_off_is_told(self) -> None:
+        """It is the last one of its tester, and the recording ends before the answer had to come."""
+        read, other = [(0, "7E0#0322F190"), (3, "7E8#0462F19041")], [(99, "7E1#023E00"), (102, "7E9#027E00")]
+        told = "learn: line {}: the recording ends {} ms behind 22F190 of tester_7E0, before an answer: it is learned as unanswered\n"
+        slow, present = (140, "7E8#037F2278"), (150, "7E0#023E80")
+        for wanted, *more in (
+            (told.format(5, 0), (110, "7E0#0322F190")), (told.format(5, 999), (110, "7E0#0322F190"), (1109, "123#00")), ("", (110, "7E0#0322F190"), (1110, "123#00")),
+            (told.format(5, 4999), (110, "7E0#0322F190"), slow, (5109, "123#00")), ("", (110, "7E0#0322F190"), slow, (5110, "123#00")),
+            (told.format(5, 40), (110, "7E0#0322F190"), present), ("", (110, "7E0#0322F190"), (150, "7E0#023E00"), (152, "7E8#027E00")), ("", present),
+            (told.format(5, 40), (110, "7E0#0322F190"), (150, "7E1#023E00"), (150, "7E9#027E00")),
+        ):
+            found = learned_of(frames(*read, *other, *more), "--pair", "7E0:7E8", "--pair", "7E1:7E9")
+            self.assertEqual((0, wanted), (found.status, found.told), more)
+        with tempfile.TemporaryDirectory() as room:
+            for text, wanted in (("(1.500000) can0 7E0#00\n(2.25) a b\n(3.125999) x\r\n\n", 3125), ("(1.500000) can0 7E0#00\ntick 5\n", None), ("", None), ("(1.500000) x 1#", 1500), (f"(9.000000){'x' * 9000}\n", None)):
+                self.assertEqual(wanted, learn_bus.end_of(put(f"{room}/end.log", text)), text)
 
     def test_one_interface(self) -> None:
         lines = frames((0, "7E0#0322F195"), (3, "7E8#0562F1950203"), (100, "7E0#0322F195"), (103, "7E8#0562F1950204")).splitlines(keepends=True)

@@ -30,8 +30,9 @@ from typing import Iterable, Iterator, NoReturn, Optional
 
 sys.dont_write_bytecode = True
 sys.path.append(os.path.join(os.path.dirname(os.path.abspath(__file__)), "parts"))
-from learn_bus import FUNCTIONAL, FUNCTIONAL_29, MOST_TESTERS, Broken, Pair, Sending, functional_of, look, pair_of, pairs_of, sending_of
-from learn_judge import AGREES, BAD_SETUP, DIFFERS, NOTHING, Exchange, Judge, Program, Refused, Verdict
+from learn_bus import ANSWER_MS, FUNCTIONAL, FUNCTIONAL_29, MOST_TESTERS, Broken, Pair, Sending
+from learn_bus import end_of, functional_of, look, pair_of, pairs_of, sending_of
+from learn_judge import AGREES, BAD_SETUP, DIFFERS, NOTHING, Exchange, Judge, Program, Refused, Verdict, shortened
 from learn_model import learn_model
 from learn_rows import MOST_BYTES, Plan
 from learn_setup import Unit, is_apart, setup_text, why_apart
@@ -178,6 +179,7 @@ def count_of(verdict: Verdict) -> int:
 def learned(unit: Unit, judge: Judge, source: str, progress: Progress) -> tuple[str, Verdict, int]:
     """The setup by which the fewest exchanges differ, what the judge says of it, and how many rows found no room in it."""
     exchanges = judge(setup_text(unit, source)).exchanges
+    unit.cut_off = cut_off(exchanges, unit)
     progress.at(0.3, "the model")
     learn_model(unit, exchanges)
     plan, best = Plan(), None
@@ -195,6 +197,25 @@ def learned(unit: Unit, judge: Judge, source: str, progress: Progress) -> tuple[
             break
         unit.rows = plan.rows(unit, verdict.exchanges)
     return best
+
+
+def cut_off(exchanges: list[Exchange], unit: Unit) -> list[Exchange]:
+    """The last requests of testers that have no answer, though the server has one, where the recording ends before it had to
+    come."""
+    found = {}
+    for it in exchanges:
+        if it.sent is not None:
+            found.pop(it.place, None)
+        elif it.differs() and unit.end is not None and 0 <= unit.end - it.at < (unit.p2_star if it.pendings else ANSWER_MS):
+            found.setdefault(it.place, it)
+    return list(found.values())
+
+
+def tell_cut_off(unit: Unit) -> None:
+    """Tells of the requests at the recording's end that are learned as unanswered."""
+    for it in unit.cut_off:
+        asked, late = shortened(it.request.hex().upper()), unit.end - it.at
+        say(f"line {it.line}: the recording ends {late} ms behind {asked} of {it.name}, before an answer: it is learned as unanswered")
 
 
 def is_too_long(it: Exchange) -> bool:
@@ -299,7 +320,7 @@ def unit_of(path: str, given: list[Pair], words: argparse.Namespace, progress: P
             say(f"--functional {functional:X} has no effect: no tester here has identifiers of {29 if is_wide else 11} bits")
     sending = sending_of(progress.through(path, 0.12, 0.2, "how they send"), pairs, interface)
     is_all_fd = f"{narrow or FUNCTIONAL:03X}" in sight.by_fd, f"{wide or FUNCTIONAL_29:08X}" in sight.by_fd
-    return Unit(pairs, narrow, sending, varies=words.varies, functional_29=wide, is_all_fd=is_all_fd)
+    return Unit(pairs, narrow, sending, varies=words.varies, functional_29=wide, is_all_fd=is_all_fd, end=end_of(path))
 
 
 def program() -> str:
@@ -378,6 +399,7 @@ def main(given: Optional[list[str]] = None) -> int:
         return 7
     tell(verdict, unit, left_out)
     tell_sizes(unit)
+    tell_cut_off(unit)
     tell_broken(unit.sending.broken)
     return verdict.status if verdict.status in (DIFFERS, NOTHING) else AGREES
 

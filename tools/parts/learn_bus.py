@@ -11,6 +11,8 @@ from uds_names import OTHERS, SERVICES
 ANSWER_MS = 1000
 # an answer has to be seen so often, and to so great a part of the requests, before two identifiers are taken for a pair
 LEAST_ANSWERS, LEAST_PART = 2, 0.5
+# the most bytes of a line, with its end
+LONGEST_LINE = 4098
 # the most testers of a setup
 MOST_TESTERS = 8
 PAIR = re.compile(
@@ -217,6 +219,15 @@ def functional_of(sight: Sight, pairs: list[Pair], is_extended: bool = False) ->
     return int(max(left, key=lambda it: (count[it], it)), 16)
 
 
+def end_of(path: str) -> Optional[int]:
+    """The stamp of a recording's last line in milliseconds; None where it has none."""
+    with open(path, "rb") as it:
+        it.seek(max(0, it.seek(0, 2) - LONGEST_LINE))
+        last = it.read().rstrip(b"\r\n").rpartition(b"\n")[2]
+    found = re.match(rb"\((\d{1,12})\.(\d{3})", last)
+    return int(found[1] + found[2]) if found else None
+
+
 # ---- how they send
 
 
@@ -266,7 +277,7 @@ class Broken:
 class Sending:
     """How the unit and its testers send: the padding byte, None for none; block size and STmin of the unit's flow control;
     the longest request that it didn't refuse by that, and the shortest that it did, None where it refused none; the longest
-    time within a request, and from an answer's FirstFrame to its flow control, in milliseconds; which messages of the unit
+    time within a request, and that for which an answer waited for flow control, in milliseconds; which messages of the unit
     are broken; and of its frames of CAN FD the length of FirstFrames, the flags, and the byte that fills those of more than 8
     bytes, None where none was seen."""
 
@@ -302,10 +313,15 @@ def sending_of(blocks: Iterable[str], pairs: list[Pair], interface: Optional[str
                 fd.take(data, flags)
             if kind == "3" and len(data) >= 6:
                 flows.take(identifier, data)
-            elif kind == "1":
+            elif identifier in found.broken.open:
                 waits[identifier] = now
+            else:
+                waits.pop(identifier, None)
         elif kind == "3" and requests[identifier] in waits:
-            found.n_bs = max(found.n_bs, now - waits.pop(requests[identifier]))
+            response = requests[identifier]
+            found.n_bs = max(found.n_bs, now - waits[response])
+            # (behind FlowControl wait it goes on waiting)
+            waits[response] = now
         elif kind == "1":
             last[identifier] = now
             flows.asked(requests[identifier], length_of(data))

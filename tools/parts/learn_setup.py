@@ -5,6 +5,7 @@ from dataclasses import dataclass, field
 from typing import Iterator, Optional
 
 from learn_bus import FUNCTIONAL, FUNCTIONAL_29, LENGTHS, Pair, Sending
+from learn_judge import Exchange
 from uds_names import IDENTIFIERS, refusal, service_name, sub_name
 
 # the times of links that a setup has where it says nothing
@@ -115,6 +116,9 @@ class Unit:
     functional_29: Optional[int] = None
     # whether testers of CAN FD have the functional identifier of 11 bits, and that of 29, where classic ones can't have it, too
     is_all_fd: tuple[bool, bool] = (False, False)
+    # when the recording ends, and the exchanges that it cuts off
+    end: Optional[int] = None
+    cut_off: list[Exchange] = field(default_factory=list)
     # the requests of each tester, by its place, and the line that told P2 and P2*
     asked: dict[int, Seen] = field(default_factory=dict)
     told: int = 0
