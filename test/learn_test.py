@@ -1106,6 +1106,16 @@ class OfRecordings(unittest.TestCase):
         ran = run_without(2, [*words, f"{TOP}/demo/bus.log"])
         self.assertEqual((0, learned(f"{TOP}/demo/bus.log").text), (ran.returncode, ran.stdout.decode()))
 
+    def test_a_pipe(self) -> None:
+        """It can be read once, be it standard input or one with a name."""
+        words, path = f"{sys.executable} {learn.__file__} {' '.join(OPTIONS)} --pair 7E0:7E8", f"{TOP}/demo/bus.log"
+        wanted = learned("--pair", "7E0:7E8", path).text.partition("\n")[2]
+        with tempfile.TemporaryDirectory() as room:
+            pipe = f"{room}/pipe"
+            for command in (f"cat {path} | {words} -", f"cat {path} | {words} /dev/stdin", f"mkfifo {pipe}; cat {path} > {pipe} & {words} {pipe}"):
+                ran = subprocess.run(["sh", "-c", command], capture_output=True, text=True, timeout=60)
+                self.assertEqual((0, wanted, ""), (ran.returncode, ran.stdout.partition("\n")[2], ran.stderr), command)
+
     def test_a_setup_is_utf_8_whatever_the_locale_is(self) -> None:
         with tempfile.TemporaryDirectory() as room:
             path = put(f"{room}/B\u00fcs.log", frames((0, "7E0#023E00"), (3, "7E8#027E00")))

@@ -94,9 +94,10 @@ def say(text: str) -> None:
 
 def converted(path: str, room: str) -> str:
     """The path of the recording in the form of `candump -L`."""
-    if path == "-":
-        with open(f"{room}/capture.log", "wb") as out:
-            shutil.copyfileobj(input_bytes(), out)
+    # (what comes by a pipe can be read once)
+    if path == "-" or os.path.exists(path) and not os.path.isfile(path) and not os.path.isdir(path):
+        with input_bytes() if path == "-" else open(path, "rb") as it, open(f"{room}/capture.log", "wb") as out:
+            shutil.copyfileobj(it, out)
         return f"{room}/capture.log"
     if not path.lower().endswith(OTHERS):
         return path

@@ -181,7 +181,7 @@ def values_in(unit: Unit, it: Exchange) -> list[tuple[int, bytes]]:
 
 
 def parted(data: bytes, left: list[int], lengths: dict[int, int]) -> list[tuple[int, bytes]]:
-    """Identifiers, each with its value, by these lengths or those that the data tells; one unknown one may be what is left. None
+    """Identifiers, each with its value, by these lengths or those that the data tells; one unknown one may be what is left. Nothing
     where they don't fit."""
     found = []
     is_one = sum(number not in lengths for number in left) == 1
