@@ -15,7 +15,7 @@ use Rattle.diag_desk.specs.declared.entry.Entry.{Entry}
 use Rattle.diag_world.proofs.Worlds.{set_cases}
 use Rattle.diag_bus.specs.Text.{ecu_after}
 use Rattle.diag_expect.specs.Expecting.{entered_of}
-use Rattle.diag_expect.specs.declared.entered.Entered.{Entered}
+use Rattle.diag_expect.specs.Entered.{Entered}
 use Rattle.diag_listen.specs.Listening.{Listens}
 use Rattle.diag_listen.specs.declared.listener.Listener.{Listener}
 use Rattle.diag_judge.specs.declared.tester.Tester.{Tester}

@@ -22,7 +22,7 @@ use Rattle.diag_exchange.specs.Exchanges.{over_after}
 use Rattle.diag_exchange.specs.declared.happening.Happening.{Happening}
 use Rattle.diag_exchange.specs.Over.{Over}
 use Rattle.diag_exchange.specs.declared.happening.CaptureLine.{CaptureLine}
-use Rattle.diag_expect.specs.declared.entered.Entered.{Entered}
+use Rattle.diag_expect.specs.Entered.{Entered}
 use Rattle.diag_listen.specs.Listening.{all_happen}
 use Rattle.diag_judge.specs.Judging.{Judges, JudgesLine, frame_events, judged_for, line_happens, request_happens, requests_happen}
 use Rattle.diag_judge.specs.declared.tester.Tester.{Tester}

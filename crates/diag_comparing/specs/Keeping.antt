@@ -21,7 +21,7 @@ use Rattle.diag_bus.specs.declared.clock.Start.{Start}
 use Rattle.diag_exchange.specs.Over.{Over}
 use Rattle.diag_exchange.specs.declared.happening.CaptureLine.{CaptureLine}
 use Rattle.diag_expect.specs.Expecting.{entered_of}
-use Rattle.diag_expect.specs.declared.entered.Entered.{Entered}
+use Rattle.diag_expect.specs.Entered.{Entered}
 use Rattle.diag_judge.specs.Judging.{Judges, counts_of, judged_for}
 use Rattle.diag_judge.specs.declared.tester.Counts.{Counts}
 use Rattle.diag_judge.specs.declared.tester.Tester.{Tester}

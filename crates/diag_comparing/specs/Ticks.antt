@@ -8,7 +8,7 @@ use Rattle.diag_desk.specs.Legal.{after_step}
 use Rattle.diag_desk.specs.declared.entry.Entry.{Entry}
 use Rattle.diag_port.specs.Standing.{entry_of_ticks}
 use Rattle.diag_bus.specs.Text.{ecu_after}
-use Rattle.diag_expect.specs.declared.entered.Entered.{Entered}
+use Rattle.diag_expect.specs.Entered.{Entered}
 use Rattle.diag_compare.specs.Hearing.{in_states, is_of}
 use Rattle.diag_comparing.specs.Keeping.{HasTaken, entry_entered}
 use Rattle.diag_comparing.specs.declared.exchange_lines.ExchangeLines.{ExchangeLines}

@@ -12,6 +12,7 @@ use crate::exchange_lines::ExchangeLines;
 use crate::telling::write_batch;
 use diag_judge::{Counts, Judged, Tester};
 use diag_setup::Setup;
+use diag_told::Second;
 use itoa::Buffer;
 use std::alloc::{AllocError, Global};
 
@@ -145,7 +146,14 @@ impl ExchangeLines {
         let mut judged = Vec::new(alloc);
         let counts = end_each(self.testers.as_slice(), alloc, setup, &mut judged)?;
         let mut end = Vec::new(alloc);
-        write_batch(setup, &self.stamps, self.differences, &mut judged, &mut end)?;
+        write_batch(
+            setup,
+            &self.stamps,
+            self.differences,
+            &mut judged,
+            &mut Second::new(),
+            &mut end,
+        )?;
         add_counts(&mut end, setup, counts.as_slice())?;
         add_last(&mut end, is_nothing(counts.as_slice()))?;
         text.extend_from_slice(end.as_slice())?;

@@ -26,6 +26,7 @@ use diag_expect::Entered;
 use diag_judge::{Judged, Tester};
 use diag_pdu::{LinkSetup, Message, Request};
 use diag_setup::{Setup, TesterId};
+use diag_told::Second;
 use std::alloc::{AllocError, Global};
 
 /// What is kept of a recording: of each tester the exchanges that aren't over, and how many were.
@@ -49,8 +50,8 @@ pub struct ExchangeLines {
     pub batch: Vec<Judged>,
     /// Boxes for exchanges to come.
     pub spare: Spare,
-    /// Room for its lines.
-    pub text: Vec<u8>,
+    /// The second of the last stamp that was told.
+    pub second: Second,
 }
 
 /// The longest message that a listener takes, in bytes.
@@ -168,7 +169,6 @@ fn take_each(
     at: CaptureLine,
     said: &BusLine,
     span: u64,
-    spare: &mut Spare,
     judged: &mut Vec<Judged>,
 ) -> Result<Range, AllocError>
     requires many { length testers.old.items ≡ length setup.now.testers }
@@ -191,7 +191,7 @@ fn take_each(
             unreachable!()
         };
         let frame = bytes_to(sent, who);
-        testers[index].take_line(spare, setup, who, at, span, frame, judged)?;
+        testers[index].take_line(setup, who, at, span, frame, judged)?;
         left = left_with(left, index, &testers[index]);
     }
     Ok(left)
@@ -238,7 +238,7 @@ impl ExchangeLines {
             busy: Range::none(),
             batch: Vec::new(alloc),
             spare: Spare::new(alloc),
-            text: Vec::new(alloc),
+            second: Second::new(),
         }
     }
 
@@ -293,8 +293,7 @@ impl ExchangeLines {
         if index >= self.testers.len() {
             return Ok(());
         }
-        let alloc = *self.testers.allocator();
-        let entered = Entered::of(alloc, ecu, who, request, reply)?;
+        let entered = Entered::of(&mut self.spare, ecu, who, request, reply)?;
         self.busy = self.busy.with(index);
         self.testers[index].enter(entered)
     }
@@ -340,7 +339,6 @@ impl ExchangeLines {
             at,
             said,
             span,
-            &mut self.spare,
             &mut self.batch,
         )?;
         self.stamps.take(line, clock);
@@ -348,15 +346,14 @@ impl ExchangeLines {
         if self.batch.is_empty() {
             return Ok(());
         }
-        self.text.clear();
         write_batch(
             setup,
             &self.stamps,
             self.differences,
             &mut self.batch,
-            &mut self.text,
+            &mut self.second,
+            text,
         )?;
-        text.extend_from_slice(self.text.as_slice())?;
         Ok(())
     }
 }

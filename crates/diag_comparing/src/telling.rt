@@ -1,6 +1,6 @@
 //! The lines of exchanges, written.
 
-ghost use Rattle.std.specs.Prelude.{◌≡◌, ◌++◌, OnOk};
+ghost use Rattle.std.specs.Prelude.{◌≡◌, ◌++◌, length, take, OnOk, OnErr};
 ghost use Rattle.std.specs.List.{flat_map};
 ghost use Rattle.diag_setup.specs.Rows.{in_order};
 ghost use Rattle.diag_setup.specs.Setup.{name_of};
@@ -9,7 +9,7 @@ ghost use Rattle.diag_comparing.specs.Keeping.{judged_number, line_at, lines_at,
 use crate::stamps::Stamps;
 use diag_judge::Judged;
 use diag_setup::{Setup, TesterId};
-use diag_told::{capture_line, tell};
+use diag_told::{Second, capture_line, tell};
 use std::alloc::AllocError;
 
 /// A tester's name; none where the setup has no such tester.
@@ -40,14 +40,17 @@ fn add_line(
     setup: &Setup,
     stamps: &Stamps,
     judged: &Judged,
+    second: &mut Second,
     text: &mut Vec<u8>,
 ) -> Result<(), AllocError>
-    ensures { OnOk result (text.new.items ≡ text.old.items ++ line_at setup.now stamps.now judged.now) }
+    ensures ok { OnOk result (text.new.items ≡ text.old.items ++ line_at setup.now stamps.now judged.now) }
+    ensures err { OnErr result (text.new.items ≡ text.old.items) }
 {
     let at = capture_line(&judged.over);
     let moment = stamps.moment(at.number, at.moment)?;
     tell(
         text,
+        second,
         name_of(setup, judged.who),
         moment,
         &judged.over,
@@ -61,34 +64,61 @@ fn write_one(
     stamps: &Stamps,
     differences: bool,
     judged: &Judged,
+    second: &mut Second,
     text: &mut Vec<u8>,
 ) -> Result<(), AllocError>
-    ensures { OnOk result (text.new.items
+    ensures ok { OnOk result (text.new.items
         ≡ text.old.items ++ written_at setup.now stamps.now differences judged.now) }
+    ensures err { OnErr result (text.new.items ≡ text.old.items) }
 {
     if differences && judged.agrees {
         return Ok(());
     }
-    add_line(setup, stamps, judged, text)
+    add_line(setup, stamps, judged, second, text)
 }
 
-/// Adds the lines of exchanges, in the order of their lines; with `differences` those that agree are left out.
+/// Adds the lines of exchanges, as they stand; where memory is refused, some of them.
+#[inline(always)]
+fn write_each(
+    setup: &Setup,
+    stamps: &Stamps,
+    differences: bool,
+    batch: &[Judged],
+    second: &mut Second,
+    text: &mut Vec<u8>,
+) -> Result<(), AllocError>
+    ensures ok { OnOk result (text.new.items
+        ≡ text.old.items ++ flat_map (written_at setup.now stamps.now differences) batch.now) }
+    ensures err { OnErr result (take (length text.old.items) text.new.items ≡ text.old.items) }
+{
+    for judged in batch {
+        write_one(setup, stamps, differences, judged, second, text)?;
+    }
+    Ok(())
+}
+
+/// Adds the lines of exchanges, in the order of their lines; with `differences` those that agree are left out. The second of
+/// the last stamp is kept for the next.
 ///
 /// # Errors
-/// `AllocError` where memory is refused.
+/// `AllocError` where memory is refused; the text stays as it was.
 pub(crate) fn write_batch(
     setup: &Setup,
     stamps: &Stamps,
     differences: bool,
     batch: &mut Vec<Judged>,
+    second: &mut Second,
     text: &mut Vec<u8>,
 ) -> Result<(), AllocError>
-    ensures { OnOk result (text.new.items
+    ensures ok { OnOk result (text.new.items
         ≡ text.old.items ++ lines_at setup.now stamps.now differences batch.old.items) }
+    ensures err { OnErr result (text.new.items ≡ text.old.items) }
 {
     sort(batch)?;
-    for judged in batch.as_slice() {
-        write_one(setup, stamps, differences, judged, text)?;
+    let before = text.len();
+    let written = write_each(setup, stamps, differences, batch.as_slice(), second, text);
+    if written.is_err() {
+        text.truncate(before);
     }
-    Ok(())
+    written
 }

@@ -4,6 +4,7 @@ use Rattle.std.specs.List.{filter, list_any}
 use Rattle.std.specs.Option.{option_to_list}
 use Rattle.diag_exchange.specs.Asking.{Course, answer, change_last, coming, courses, fits, is_loud, is_pending, is_replaced, replaces}
 use Rattle.diag_exchange.specs.Exchanges.{is_open, pendings}
+use Rattle.diag_exchange.specs.declared.happening.CaptureLine.{CaptureLine}
 use Rattle.diag_exchange.specs.declared.happening.Happening.{Happening}
 use Rattle.diag_exchange.specs.declared.happening.Heard.{Heard}
 use Rattle.diag_exchange.specs.Over.{Over, Exchange}
@@ -82,6 +83,17 @@ told e = Exchange e.request e.pendings e.answer
 abbrev pub opened : AskedRequest → Open
 opened request =
     record { request = request; pendings = 0; answer = None; hears = false; replaced = false }
+
+-- ---- one that is made for a request
+
+-- it is complete at this line, and ignored or not
+abbrev pub completed : CaptureLine → Bool → Open → Open
+completed at ignored e =
+    record e { request = record e.request { at = at; expected = record e.request.expected { ignored = ignored } } }
+
+-- these bytes of its reply vary
+abbrev pub marked : Option (List ℕ) → Open → Open
+marked marks e = record e { request = record e.request { expected = record e.request.expected { varies = marks } } }
 
 -- ---- where one stands
 

@@ -4,13 +4,12 @@ ghost use Rattle.std.specs.Prelude.{◌≡◌, ◌≤◌, ◌+◌, ◌++◌, ◌
 ghost use Rattle.std.specs.List.{filter, list_any};
 ghost use Rattle.diag_exchange.specs.Over.{Unasked};
 ghost use Rattle.diag_exchange.specs.Taking.{Ended, IsUnchanged, Stands, Took, TookSilently};
-ghost use Rattle.diag_exchange.specs.Streaming.{asked_again, finish, goes_on, hear, hears_it, is_done, may_hear, told, IsLast};
+ghost use Rattle.diag_exchange.specs.Streaming.{asked_again, finish, goes_on, hear, hears_it, is_done, may_hear, opened, told, IsLast};
 ghost use Rattle.diag_exchange.specs.declared.happening.Happening.TheVariants.{Asked, Began, Came, Lost};
 
 use crate::happening::{AskedRequest, Heard, Start};
 use crate::open_box::OpenBox;
 use crate::over::Over;
-use crate::spare::Spare;
 use diag_pdu::Message;
 use std::alloc::{AllocError, Global};
 
@@ -137,29 +136,24 @@ impl Exchanges {
         }
     }
 
-    /// A request is complete; what is over with it is put behind `over`. Its exchange goes into a spare box, where there is one.
+    /// A request is complete, of which nothing was heard; what is over with it is put behind `over`.
     ///
     /// # Errors
     /// `AllocError` where memory is refused, and then nothing has changed.
     #[inline(always)]
-    pub fn ask(
-        &mut self,
-        request: AskedRequest,
-        spare: &mut Spare,
-        over: &mut Vec<Over>,
-    ) -> Result<(), AllocError>
+    pub fn ask(&mut self, asked: OpenBox, over: &mut Vec<Over>) -> Result<(), AllocError>
+        requires { asked ≡ opened asked.request }
         ensures ok { OnOk result (Took self.old self.new over.old.items over.new.items
-            (Asked request)) }
+            (Asked asked.request)) }
         ensures coming { OnOk result (self.new.coming ≡ self.old.coming) }
         ensures err { OnErr result (IsUnchanged self.old self.new) }
         ensures out { OnErr result (over.new.items ≡ over.old.items) }
     {
-        let open = spare.open(request)?;
         over.reserve(self.live.len())?;
         self.live.reserve(1)?;
-        ask_again(&mut self.live, &open.get().request);
+        ask_again(&mut self.live, &asked.get().request);
         take_out(&mut self.live, true, over);
-        self.live.push_reserved(open);
+        self.live.push_reserved(asked);
         Ok(())
     }
 

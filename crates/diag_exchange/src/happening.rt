@@ -93,6 +93,23 @@ fn copy_of(alloc: Global, message: Option<&Message>) -> Result<Option<Message>, 
 }
 
 impl Expected {
+    /// Becomes another, part by part.
+    #[inline(always)]
+    pub(crate) fn set(&mut self, other: Expected)
+        ensures { self.new ≡ other }
+    {
+        let Expected {
+            reply,
+            varies,
+            own,
+            ignored,
+        } = other;
+        self.reply = reply;
+        self.varies = varies;
+        self.own = own;
+        self.ignored = ignored;
+    }
+
     /// The same again.
     ///
     /// # Errors

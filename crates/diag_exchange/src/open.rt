@@ -2,9 +2,9 @@
 
 ghost use Rattle.std.specs.Prelude.{◌≡◌, ◌+◌, ◌∷◌, [], option_copied, IfOk, OnOk, OnErr};
 ghost use Rattle.diag_exchange.specs.Asking.{begins_as, begins_as_reply, first_byte, fits, is_positive};
-ghost use Rattle.diag_exchange.specs.Streaming.{asked_again, hearing, hears_no_more, is_candidate, is_done, may_hear, opened, with_message};
+ghost use Rattle.diag_exchange.specs.Streaming.{asked_again, completed, hearing, hears_no_more, is_candidate, is_done, marked, may_hear, opened, with_message};
 
-use crate::happening::{AskedRequest, Heard, Start};
+use crate::happening::{AskedRequest, CaptureLine, Heard, Start};
 use diag_pdu::Message;
 use std::alloc::{AllocError, Global};
 
@@ -75,6 +75,43 @@ impl Open {
             hears: false,
             replaced: false,
         }
+    }
+
+    /// Becomes a request of which nothing was heard. (Part by part, so that what was there needn't be moved.)
+    #[inline(always)]
+    pub fn set(&mut self, request: AskedRequest)
+        ensures { self.new ≡ opened request }
+    {
+        let AskedRequest {
+            at,
+            functional,
+            bytes,
+            expected,
+        } = request;
+        self.request.at = at;
+        self.request.functional = functional;
+        self.request.bytes = bytes;
+        self.request.expected.set(expected);
+        self.pendings = 0;
+        self.answer = None;
+        self.hears = false;
+        self.replaced = false;
+    }
+
+    /// Its request is complete at a line, and ignored or not.
+    #[inline(always)]
+    pub fn complete(&mut self, at: CaptureLine, ignored: bool)
+        ensures { self.new ≡ completed at ignored self.old }
+    {
+        self.request.at = at;
+        self.request.expected.ignored = ignored;
+    }
+
+    /// These bytes of the server's reply vary.
+    pub fn mark(&mut self, marks: Option<Message>)
+        ensures { self.new ≡ marked marks self.old }
+    {
+        self.request.expected.varies = marks;
     }
 
     /// Whether it is over, where the newest happening is a request or not.

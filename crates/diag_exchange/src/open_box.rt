@@ -1,10 +1,11 @@
 //! An exchange that isn't over, as it is kept.
 
 ghost use Rattle.std.specs.Prelude.{◌≡◌, IfOk, OnOk, OnErr};
-ghost use Rattle.diag_exchange.specs.Streaming.{asked_again, hearing, hears_no_more, opened, with_message};
+ghost use Rattle.diag_exchange.specs.Streaming.{asked_again, completed, hearing, hears_no_more, marked, opened, with_message};
 
-use crate::happening::{AskedRequest, Heard};
+use crate::happening::{AskedRequest, CaptureLine, Heard};
 use crate::open::Open;
+use diag_pdu::Message;
 use std::alloc::{AllocError, Global};
 use std::marker::Model;
 
@@ -37,12 +38,12 @@ impl OpenBox {
         }
     }
 
-    /// Becomes a request of which nothing was heard.
+    /// As `Open::set`.
     #[inline(always)]
     pub fn set(&mut self, request: AskedRequest)
         ensures { self.new ≡ opened request }
     {
-        *self.open = Open::new(request);
+        self.open.set(request);
     }
 
     /// The same again.
@@ -64,6 +65,21 @@ impl OpenBox {
         ensures { result.now ≡ self.now }
     {
         &self.open
+    }
+
+    /// As `Open::complete`.
+    #[inline(always)]
+    pub fn complete(&mut self, at: CaptureLine, ignored: bool)
+        ensures { self.new ≡ completed at ignored self.old }
+    {
+        self.open.complete(at, ignored);
+    }
+
+    /// As `Open::mark`.
+    pub fn mark(&mut self, marks: Option<Message>)
+        ensures { self.new ≡ marked marks self.old }
+    {
+        self.open.mark(marks);
     }
 
     /// As `Open::hear`.

@@ -14,9 +14,7 @@ use Rattle.diag_ecu.specs.State.{State}
 use Rattle.diag_exchange.specs.declared.happening.Expected.{Expected}
 use Rattle.diag_exchange.specs.declared.happening.CaptureLine.{CaptureLine}
 use Rattle.diag_exchange.specs.declared.happening.AskedRequest.{AskedRequest}
-use Rattle.diag_expect.specs.declared.entered.Entered.{Entered}
-use Rattle.diag_expect.specs.declared.entered.Source.{Source}
-use Rattle.diag_expect.specs.declared.entered.Source.TheVariants.{Model, Row}
+use Rattle.diag_expect.specs.Entered.{Entered, Source, Model, Row}
 
 -- ---- what isn't compared
 

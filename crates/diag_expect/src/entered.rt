@@ -1,45 +1,47 @@
 //! A request as the server took it, and what is expected of the unit.
 
-ghost use Rattle.std.specs.Prelude.{◌≡◌, ◌≤◌, length, option_map, option_copied, IfOk, IfSome};
-ghost use Rattle.diag_expect.specs.Expecting.{asked_at, entered_of, marks_of, source_of};
+ghost use Rattle.std.specs.Prelude.{◌≡◌, ◌≤◌, length, option_copied, IfOk};
+ghost use Rattle.diag_exchange.specs.Streaming.{opened};
+ghost use Rattle.diag_expect.specs.Expecting.{asked_at, entered_of};
 
 use crate::expecting::{is_ignored, own_marks, template_marks};
 use diag_ecu::Ecu;
-use diag_exchange::{AskedRequest, CaptureLine, Expected};
+use diag_exchange::{AskedRequest, CaptureLine, Expected, OpenBox, Spare};
 use diag_pdu::{Message, Request};
-use diag_setup::{Setup, TemplateItem, TesterId};
+use diag_setup::{Setup, TesterId};
 use std::alloc::{AllocError, Global};
+use std::marker::Model;
 
-/// Of what a reply is made.
-#[derive(Drop)]
-pub enum Source {
-    /// By the services.
-    Model,
-    /// Of a row's template, which has these marks where it leaves bytes open.
-    Row(Option<Message>),
-}
-
-/// A request as the server took it, with its reply.
+/// A request as the server took it, with its reply. It is kept as the exchange to come, so that it needn't be moved there.
 #[derive(Drop)]
 pub struct Entered {
-    /// Whether it came to all units.
-    pub functional: bool,
-    /// Its bytes.
-    pub bytes: Message,
-    /// Of what the reply is made.
-    pub source: Source,
-    /// The reply, where there is one.
-    pub reply: Option<Message>,
+    kept: OpenBox,
 }
 
+impl Model for Entered {
+    ghost use Rattle.diag_expect.specs.Entered.{Entered as AnEntered, IsKept, entered_in};
+
+    ghost Value = { AnEntered };
+
+    ghost view = { λ e. entered_in e.kept };
+
+    ghost invariant = { λ e. IsKept e.kept };
+}
+
+/// The line of a request that isn't complete yet.
+const NO_LINE: CaptureLine = CaptureLine {
+    number: 0,
+    moment: 0,
+};
+
 impl Entered {
-    /// A request of a tester with its reply, by the ECU before it.
+    /// A request of a tester with its reply, by the ECU before it. It goes into a spare box, where there is one.
     ///
     /// # Errors
     /// `AllocError` where memory is refused.
     #[inline(always)]
     pub fn of(
-        alloc: Global,
+        spare: &mut Spare,
         ecu: &Ecu,
         who: TesterId,
         request: &Request,
@@ -48,56 +50,53 @@ impl Entered {
         ensures { IfOk result (λ entered. entered
             ≡ entered_of ecu.now who request.now (option_copied reply.entry)) }
     {
-        let source = source_of(alloc, ecu.template_for(who, request.message.bytes()))?;
+        let items = ecu.template_for(who, request.message.bytes());
         let bytes = request.message.try_copy()?;
         let reply = copy_of(reply)?;
-        Ok(Entered {
+        let mut kept = spare.open(AskedRequest {
+            at: NO_LINE,
             functional: request.functional,
             bytes,
-            source,
-            reply,
-        })
+            expected: Expected {
+                reply,
+                varies: None,
+                own: items.is_none(),
+                ignored: false,
+            },
+        })?;
+        if let Some(items) = items {
+            kept.mark(template_marks(spare.alloc(), items)?);
+        }
+        Ok(Entered { kept })
     }
 
-    /// The request, complete at a line, with what is expected of the unit.
+    /// The exchange of the request, complete at a line, with what is expected of the unit.
     ///
     /// # Errors
     /// `AllocError` where memory is refused.
     #[inline(always)]
-    pub fn into_request(
+    pub fn into_exchange(
         self,
         alloc: Global,
         setup: &Setup,
         at: CaptureLine,
-    ) -> Result<AskedRequest, AllocError>
-        ensures { IfOk result (λ request. request ≡ asked_at setup.now at self) }
+    ) -> Result<OpenBox, AllocError>
+        ensures { IfOk result (λ own. own ≡ opened (asked_at setup.now at self)) }
     {
-        let own = matches!(self.source, Source::Model);
-        let ignored = is_ignored(setup, self.bytes.bytes());
-        let varies = marks_of(alloc, setup, self.source, &self.bytes, self.reply.as_ref())?;
-        Ok(AskedRequest {
-            at,
-            functional: self.functional,
-            bytes: self.bytes,
-            expected: Expected {
-                reply: self.reply,
-                varies,
-                own,
-                ignored,
-            },
-        })
-    }
-}
-
-/// Of what a reply is made that the items of a template make, or the services.
-#[inline(always)]
-fn source_of(alloc: Global, items: Option<&[TemplateItem]>) -> Result<Source, AllocError>
-    requires { IfSome items (λ items. length items.now ≤ 4095) }
-    ensures { IfOk result (λ source. source ≡ source_of (option_map (λ items. items.now) items.entry)) }
-{
-    match items {
-        None => Ok(Source::Model),
-        Some(items) => Ok(Source::Row(template_marks(alloc, items)?)),
+        let mut own = self.kept;
+        let ignored = is_ignored(setup, own.get().request.bytes.bytes());
+        own.complete(at, ignored);
+        let request = &own.get().request;
+        match &request.expected.reply {
+            None => own.mark(None),
+            Some(reply) => {
+                if request.expected.own {
+                    let marks = own_marks(alloc, setup, request.bytes.bytes(), reply.bytes())?;
+                    own.mark(marks);
+                }
+            }
+        }
+        Ok(own)
     }
 }
 
@@ -108,24 +107,5 @@ fn copy_of(message: Option<&Message>) -> Result<Option<Message>, AllocError>
     match message {
         Some(message) => Ok(Some(message.try_copy()?)),
         None => Ok(None),
-    }
-}
-
-/// The marks of a reply, where some bytes vary.
-#[inline(always)]
-fn marks_of(
-    alloc: Global,
-    setup: &Setup,
-    source: Source,
-    p: &Message,
-    reply: Option<&Message>,
-) -> Result<Option<Message>, AllocError>
-    ensures { IfOk result (λ marks. marks
-        ≡ marks_of setup.now source p.now (option_copied reply.entry)) }
-{
-    match (reply, source) {
-        (None, _) => Ok(None),
-        (Some(reply), Source::Model) => own_marks(alloc, setup, p.bytes(), reply.bytes()),
-        (Some(_), Source::Row(marks)) => Ok(marks),
     }
 }

@@ -5,5 +5,5 @@ mod entered;
 mod expecting;
 mod laws;
 
-pub use entered::{Entered, Source};
+pub use entered::Entered;
 pub use laws::{lengths_law, values_law};

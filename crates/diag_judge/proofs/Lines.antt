@@ -17,7 +17,7 @@ use Rattle.diag_exchange.specs.Over.{Over}
 use Rattle.diag_exchange.specs.declared.happening.CaptureLine.{CaptureLine}
 use Rattle.diag_exchange.specs.declared.happening.AskedRequest.{AskedRequest}
 use Rattle.diag_expect.specs.Expecting.{asked_at}
-use Rattle.diag_expect.specs.declared.entered.Entered.{Entered}
+use Rattle.diag_expect.specs.Entered.{Entered}
 use Rattle.diag_listen.specs.Listening.{Hears, HearsRequest, Listens, all_happen}
 use Rattle.diag_listen.specs.declared.listener.Listener.{Listener}
 use Rattle.diag_listen.proofs.Hearing.{over_append, waits_none}

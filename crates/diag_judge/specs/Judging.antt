@@ -12,7 +12,7 @@ use Rattle.diag_exchange.specs.declared.happening.Happening.TheVariants.{Asked}
 use Rattle.diag_exchange.specs.Over.{Over}
 use Rattle.diag_exchange.specs.declared.happening.CaptureLine.{CaptureLine}
 use Rattle.diag_expect.specs.Expecting.{asked_at}
-use Rattle.diag_expect.specs.declared.entered.Entered.{Entered}
+use Rattle.diag_expect.specs.Entered.{Entered}
 use Rattle.diag_listen.specs.Listening.{Listens, all_happen}
 use Rattle.diag_listen.specs.declared.listener.Listener.{Listener}
 use Rattle.diag_judge.specs.declared.tester.Counts.{Counts}

@@ -6,7 +6,7 @@ ghost use Rattle.diag_exchange.specs.Over.{Over as AnOver};
 ghost use Rattle.diag_judge.specs.Judging.{AreCounts, EndsCounted, EndsJudged, HearsLine, HearsRequests, Judges, JudgesLine, judged_for};
 
 use diag_can::KeptBytes;
-use diag_exchange::{CaptureLine, Over, Spare};
+use diag_exchange::{CaptureLine, Over};
 use diag_expect::Entered;
 use diag_listen::Listener;
 use diag_pdu::LinkSetup;
@@ -51,7 +51,6 @@ pub struct Tester {
 /// Hears requests that are complete at a line, and leaves none; what is over with them is put behind `over`.
 fn hear_requests(
     listener: &mut Listener,
-    spare: &mut Spare,
     setup: &Setup,
     at: CaptureLine,
     entered: &mut Vec<Entered>,
@@ -62,11 +61,12 @@ fn hear_requests(
     ensures none { OnOk result (entered.new.items ≡ []) }
     ensures link_setup { listener.new.setup ≡ listener.old.setup }
 {
+    let alloc = *over.allocator();
     entered.reverse();
     for _turn in 0..entered.len() {
         let one = entered.take_last();
-        let request = one.into_request(spare.alloc(), setup, at)?;
-        listener.ask(request, spare, over)?;
+        let asked = one.into_exchange(alloc, setup, at)?;
+        listener.ask(asked, over)?;
     }
     Ok(())
 }
@@ -120,15 +120,13 @@ impl Tester {
     }
 
     /// Takes the end of a line: so many milliseconds, the requests that were entered, and a frame of the unit, where the
-    /// line has one. What is over with it is put behind `judged`. Exchanges go into
-    /// spare boxes, where there are some.
+    /// line has one. What is over with it is put behind `judged`.
     ///
     /// # Errors
     /// `AllocError` where memory is refused; of what was taken nothing is said then.
     #[inline(always)]
     pub fn take_line(
         &mut self,
-        spare: &mut Spare,
         setup: &Setup,
         who: TesterId,
         at: CaptureLine,
@@ -144,7 +142,7 @@ impl Tester {
         if frame.is_none() && self.is_idle() {
             return Ok(());
         }
-        self.take(spare, setup, who, at, span, frame, judged)
+        self.take(setup, who, at, span, frame, judged)
     }
 
     /// Whether time alone changes nothing: no request was entered, and no message is coming in.
@@ -160,7 +158,6 @@ impl Tester {
     #[inline(never)]
     fn take(
         &mut self,
-        spare: &mut Spare,
         setup: &Setup,
         who: TesterId,
         at: CaptureLine,
@@ -173,19 +170,18 @@ impl Tester {
         ensures entered { OnOk result (self.new.entered.items ≡ []) }
         ensures link_setup { self.new.listener.setup ≡ self.old.listener.setup }
     {
-        self.hear(spare, setup, at, span, frame)?;
+        self.hear(setup, at, span, frame)?;
         if self.over.is_empty() {
             return Ok(());
         }
         self.counts
-            .judge(spare.alloc(), who, &mut self.over, judged)
+            .judge(*judged.allocator(), who, &mut self.over, judged)
     }
 
     /// Hears a line, and keeps what is over with it.
     #[inline(always)]
     fn hear(
         &mut self,
-        spare: &mut Spare,
         setup: &Setup,
         at: CaptureLine,
         span: u64,
@@ -201,7 +197,6 @@ impl Tester {
         self.listener.wait(at, span, &mut self.over)?;
         hear_requests(
             &mut self.listener,
-            spare,
             setup,
             at,
             &mut self.entered,

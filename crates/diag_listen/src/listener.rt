@@ -7,12 +7,13 @@ ghost use Rattle.diag_pdu.specs.Kind.{Consecutive, IsRead, says};
 ghost use Rattle.diag_pdu.specs.Cut.{head_size};
 ghost use Rattle.diag_pdu.specs.Length.{single_most};
 ghost use Rattle.diag_sides.specs.Receiver.{begun_receiving, open_after};
+ghost use Rattle.diag_exchange.specs.Streaming.{opened};
 ghost use Rattle.diag_exchange.specs.Taking.{Ended};
 ghost use Rattle.diag_exchange.specs.declared.happening.Happening.TheVariants.{Began, Came};
 ghost use Rattle.diag_listen.specs.Listening.{Hears, HearsRequest, Listens, Moves, TookEach, after_ticks, began, kind_happens, lost_if, part_happens, ticks_happen};
 
 use diag_can::TickCount;
-use diag_exchange::{AskedRequest, CaptureLine, Exchanges, Over, Spare, Start};
+use diag_exchange::{CaptureLine, Exchanges, OpenBox, Over, Start};
 use diag_pdu::{DataLength, LinkSetup, Message, Pci};
 use diag_sides::Receiver;
 use std::alloc::{AllocError, Global};
@@ -111,22 +112,18 @@ impl Listener {
         self.take_pci(at, Pci::read(frame, self.setup.max_request), over)
     }
 
-    /// Hears a request of the tester, complete. Its exchange goes into a spare box, where there is one.
+    /// Hears a request of the tester, complete, of which nothing was heard.
     ///
     /// # Errors
     /// As `wait`.
     #[inline(always)]
-    pub fn ask(
-        &mut self,
-        request: AskedRequest,
-        spare: &mut Spare,
-        over: &mut Vec<Over>,
-    ) -> Result<(), AllocError>
+    pub fn ask(&mut self, asked: OpenBox, over: &mut Vec<Over>) -> Result<(), AllocError>
+        requires { asked ≡ opened asked.request }
         ensures heard { OnOk result
-            (HearsRequest self.old self.new over.old.items over.new.items request) }
+            (HearsRequest self.old self.new over.old.items over.new.items asked.request) }
         ensures setup { self.new.setup ≡ self.old.setup }
     {
-        self.exchanges.ask(request, spare, over)
+        self.exchanges.ask(asked, over)
     }
 
     /// Where all was heard, the exchanges that aren't over are put behind `over`, in memory of their own.

@@ -1,10 +1,9 @@
 -- The bytes of a message beside their marks.
-use Rattle.std.proofs.Common.{◌≡◌, ℕ, zero, suc, ◌*◌, Option, Some, List, [], ◌∷◌, ◌++◌, drop, length, refl, ap, sym, ◌∙◌, append_assoc, arith}
-pub use Rattle.std.proofs.lemmas.Fmt.{decimal_digit}
-use Rattle.std.specs.Prelude.{min, Result, Ok, Err, OnOk}
+use Rattle.std.proofs.Common.{◌≡◌, ℕ, zero, suc, ◌*◌, Option, None, Some, List, [], ◌∷◌, ◌++◌, drop, length, length-append, true, false, refl, ap, sym, ◌∙◌, append_assoc, arith}
+use Rattle.std.specs.Prelude.{min, ◌==◌, if◌then◌else◌, codes}
 use Rattle.hex.proofs.HexLemmas.{length-encode_with}
 use Rattle.hex.specs.Hex.{encode_upper, encode_with, upper_digits}
-use Rattle.diag_told.specs.Told.{bytes_text, message_text}
+use Rattle.diag_told.specs.Told.{byte_text, bytes_text, message_text, reply_text}
 
 pub unmarked : (bytes : List ℕ) → bytes_text [] bytes ≡ encode_upper bytes
 unfolding encode_with
@@ -22,15 +21,23 @@ end_marked (m ∷ marks) [] (suc n) e = absurd (omega (arith, e))
 end_marked (m ∷ marks) (b ∷ bytes) zero e = absurd (omega (arith, e))
 end_marked (m ∷ marks) (b ∷ bytes) (suc n) e = end_marked marks bytes n (omega (arith, e))
 
-pub then_ok : {A E : Type 0} (r : Result A E) (P Q : Type 0) → OnOk r P → (P → Q) → OnOk r Q
-then_ok (Ok x) P Q h f = f h
-then_ok (Err e) P Q h f = tt
-
 -- by how many bytes a message is told
 pub message_count : (message : Option (List ℕ)) (bytes : List ℕ) → message ≡ Some bytes → 2 * length bytes ≡ length (message_text message)
 message_count message bytes is = sym (length-encode_with upper_digits bytes) ∙ ap (λ (m : Option (List ℕ)). length (message_text m)) (sym is)
 
--- five words, one behind the other
-pub five_joined : (old a b c d e v w x y z : List ℕ) → a ≡ old ++ v → b ≡ a ++ w → c ≡ b ++ x → d ≡ c ++ y → e ≡ d ++ z
-    → e ≡ old ++ (v ++ w ++ x ++ y ++ z)
-five_joined old a b c d e v w x y z p q r s t = rw (t, s, r, q, p) (simp append_assoc)
+two_count : (m b : ℕ) → length (byte_text m b) ≡ 2
+two_count m b = elim (m == 2) as (λ t. length (if t then codes "??" else encode_upper (b ∷ [])) ≡ 2) [
+  | true ↦ refl
+  | false ↦ length-encode_with upper_digits (b ∷ [])
+]
+
+-- by how many bytes a reply is told, whatever varies
+pub marked_count : (ms bytes : List ℕ) → length (bytes_text ms bytes) ≡ 2 * length bytes
+marked_count ms [] = omega arith
+marked_count [] (b ∷ bytes) = length-encode_with upper_digits (b ∷ bytes)
+marked_count (m ∷ ms) (b ∷ bytes) =
+    omega (arith, length-append (byte_text m b) (bytes_text ms bytes), marked_count ms bytes, two_count m b)
+
+pub reply_count : (ms : List ℕ) (reply : Option (List ℕ)) → length (message_text reply) ≡ length (reply_text ms reply)
+reply_count ms None = refl
+reply_count ms (Some bytes) = length-encode_with upper_digits bytes ∙ sym (marked_count ms bytes)

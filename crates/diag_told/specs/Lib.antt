@@ -1,1 +1,2 @@
+pub mod Second
 pub mod Told

@@ -1,80 +1,92 @@
 //! The line of an exchange.
 
-ghost use Rattle.std.specs.Prelude.{◌≡◌, ◌<◌, ◌≤◌, ◌+◌, ◌/◌, ◌%◌, ◌^◌, ◌∷◌, [], ◌++◌, codes, decimal, length, drop, option_copied, vec_len, vec_capacity, OnOk};
+ghost use Rattle.std.specs.Prelude.{◌≡◌, ◌<◌, ◌≤◌, ◌+◌, ◌*◌, ◌/◌, ◌%◌, ◌^◌, ◌∷◌, [], ◌++◌, codes, decimal, length, drop, option_copied, vec_len, vec_capacity, IfSome, OnOk, OnErr};
 ghost use Rattle.hex.specs.Hex.{encode_upper};
 ghost use Rattle.diag_can.specs.Reply.{zero_filled};
 ghost use Rattle.diag_exchange.specs.Agreeing.{marks, waited};
 ghost use Rattle.diag_told.specs.Told.{byte_text, bytes_text, capture_line_told, expected_text, kind_text, message_text, pendings_told, reply_text, request_text, sent_text, stamp_text, time_text, told_text};
 
-use diag_can::{add_bytes, add_hex, decimal_pair, write_hex};
+use crate::number::add_number;
+use crate::second::Second;
+use diag_can::{add_bytes, add_hex, decimal_pair, hex_digits};
 use diag_exchange::{CaptureLine, Expected, Over, OverKind};
 use diag_pdu::Message;
-use itoa::Buffer;
 use std::alloc::AllocError;
 use std::mem;
 
-/// More bytes than line, stamp and kind have, with the spaces behind them.
-const HEAD_ROOM: usize = 80;
+/// More bytes than a line has beside its tester's name and its messages.
+const LINE_ROOM: usize = 128;
 
-/// More bytes than the numbers at a line's end have.
-const NUMBERS_ROOM: usize = 48;
-
-/// The first number of more than ten digits.
-const TEN_DIGITS: u64 = 10_000_000_000;
+/// The first time, in milliseconds, whose seconds have more than ten digits.
+const LATE: u64 = 10_000_000_000_000;
 
 /// Adds the line of an exchange of a tester of this name, by the bus's time of its line, in milliseconds; `same` says whether
-/// it agrees.
+/// it agrees. The second of its stamp is kept for the next.
 ///
 /// # Errors
-/// `AllocError` where memory is refused.
+/// `AllocError` where memory is refused; the text stays as it was.
 pub fn tell(
     text: &mut Vec<u8>,
+    second: &mut Second,
     name: &[u8],
     moment: u64,
     over: &Over,
     same: bool,
 ) -> Result<(), AllocError>
-    ensures { OnOk result (text.new.items ≡ text.old.items ++ told_text name.now moment same over.now) }
+    ensures ok { OnOk result (text.new.items ≡ text.old.items ++ told_text name.now moment same over.now) }
+    ensures err { OnErr result (text.new.items ≡ text.old.items) }
 {
-    add_front(text, name, moment, over)?;
-    add_expected(text, over, same)?;
-    add_numbers(text, over)
+    let room = line_room(name, over, same).ok_or(AllocError)?;
+    text.reserve(room)?;
+    add_front(text, second, name, moment, over);
+    add_expected(text, over, same);
+    add_numbers(text, over);
+    Ok(())
 }
 
-/// Adds line, stamp, tester, kind, request and what the unit sent, each before a space. It makes room for all of them once.
-fn add_front(text: &mut Vec<u8>, name: &[u8], moment: u64, over: &Over) -> Result<(), AllocError>
-    ensures { OnOk result (text.new.items ≡ text.old.items ++ (decimal (capture_line_told over.now).number ++ codes " "
-        ++ stamp_text moment ++ codes " " ++ name.now ++ codes " " ++ kind_text over.now ++ codes " "
-        ++ request_text over.now ++ codes " " ++ sent_text over.now ++ codes " ")) }
+/// As many bytes as a line may have, where that is a number.
+#[inline(always)]
+fn line_room(name: &[u8], over: &Over, same: bool) -> Option<usize>
+    ensures { IfSome result (λ room. room ≡ length name.now + length (request_text over.now)
+        + length (sent_text over.now) + length (expected_text same over.now) + 128) }
 {
-    let (request, sent) = (request(over), sent(over));
-    let messages = count_of(request) + count_of(sent);
-    let room = name
-        .len()
-        .checked_add(messages + HEAD_ROOM)
-        .ok_or(AllocError)?;
-    text.reserve(room)?;
+    let messages = count_of(request(over)) + count_of(sent(over)) + expected_count(over, same);
+    name.len().checked_add(messages + LINE_ROOM)
+}
+
+/// Adds line, stamp, tester, kind, request and what the unit sent, each before a space, where there is room.
+#[inline(always)]
+fn add_front(text: &mut Vec<u8>, second: &mut Second, name: &[u8], moment: u64, over: &Over)
+    requires { vec_len text.old + (length name.now + length (request_text over.now) + length (sent_text over.now) + 80)
+        ≤ vec_capacity text.old }
+    ensures items { text.new.items ≡ text.old.items ++ (decimal (capture_line_told over.now).number ++ codes " "
+        ++ stamp_text moment ++ codes " " ++ name.now ++ codes " " ++ kind_text over.now ++ codes " "
+        ++ request_text over.now ++ codes " " ++ sent_text over.now ++ codes " ") }
+    ensures len { vec_len text.new ≤ vec_len text.old
+        + (length name.now + length (request_text over.now) + length (sent_text over.now) + 80) }
+    ensures capacity { vec_capacity text.new ≡ vec_capacity text.old }
+{
     let alloc = *text.allocator();
     // (in a variable of its own, so that the text's place and length stay in registers)
     let mut line = mem::replace(text, Vec::new(alloc));
     add_head(
         &mut line,
+        second,
         name,
         moment,
         capture_line(over).number,
         kind(over),
     );
-    add_message(&mut line, request);
+    add_message(&mut line, request(over));
     line.push_reserved(b' ');
-    add_message(&mut line, sent);
+    add_message(&mut line, sent(over));
     line.push_reserved(b' ');
     *text = line;
-    Ok(())
 }
 
 /// Adds line, stamp, tester and kind, each before a space, where there is room.
 #[inline(always)]
-fn add_head(text: &mut Vec<u8>, name: &[u8], moment: u64, line: u64, kind: u8)
+fn add_head(text: &mut Vec<u8>, second: &mut Second, name: &[u8], moment: u64, line: u64, kind: u8)
     requires { vec_len text.old + (length name.now + 78) ≤ vec_capacity text.old }
     ensures items { text.new.items ≡ text.old.items ++ (decimal line ++ codes " " ++ stamp_text moment ++ codes " "
         ++ name.now ++ codes " " ++ kind ∷ codes " ") }
@@ -83,24 +95,30 @@ fn add_head(text: &mut Vec<u8>, name: &[u8], moment: u64, line: u64, kind: u8)
 {
     add_number(text, line);
     text.push_reserved(b' ');
-    add_stamp(text, moment);
+    add_stamp(text, second, moment);
     text.push_reserved(b' ');
     add_bytes(text, name);
     add_bytes(text, &[b' ', kind, b' ']);
 }
 
-/// Adds the time until the answer, and how often response pending came, each behind a space, and ends the line.
-fn add_numbers(text: &mut Vec<u8>, over: &Over) -> Result<(), AllocError>
-    ensures { OnOk result (text.new.items ≡ text.old.items
-        ++ (codes " " ++ time_text (waited over.now) ++ codes " " ++ decimal (pendings_told over.now) ++ codes "\n")) }
+/// Adds the time until the answer, and how often response pending came, each behind a space, and ends the line, where there
+/// is room.
+#[inline(always)]
+fn add_numbers(text: &mut Vec<u8>, over: &Over)
+    requires { vec_len text.old + 48 ≤ vec_capacity text.old }
+    ensures items { text.new.items ≡ text.old.items
+        ++ (codes " " ++ time_text (waited over.now) ++ codes " " ++ decimal (pendings_told over.now) ++ codes "\n") }
+    ensures len { vec_len text.new ≤ vec_len text.old + 48 }
+    ensures capacity { vec_capacity text.new ≡ vec_capacity text.old }
 {
-    text.reserve(NUMBERS_ROOM)?;
-    text.push_reserved(b' ');
-    add_time(text, over.waited());
-    text.push_reserved(b' ');
-    add_number(text, pendings(over));
-    text.push_reserved(b'\n');
-    Ok(())
+    let alloc = *text.allocator();
+    let mut line = mem::replace(text, Vec::new(alloc));
+    line.push_reserved(b' ');
+    add_time(&mut line, over.waited());
+    line.push_reserved(b' ');
+    add_number(&mut line, pendings(over));
+    line.push_reserved(b'\n');
+    *text = line;
 }
 
 /// Adds the time until the answer, where there is one, and where there is room.
@@ -170,6 +188,7 @@ fn sent(over: &Over) -> Option<&Message>
 }
 
 /// By how many bytes a message is told.
+#[inline(always)]
 fn count_of(message: Option<&Message>) -> usize
     ensures count { result ≡ length (message_text (option_copied message.entry)) }
     ensures most { result ≤ 131070 }
@@ -177,6 +196,20 @@ fn count_of(message: Option<&Message>) -> usize
     match message {
         Some(message) => 2 * message.bytes().len(),
         None => 1,
+    }
+}
+
+/// By how many bytes it is told what was expected.
+#[inline(always)]
+fn expected_count(over: &Over, same: bool) -> usize
+    ensures count { result ≡ length (expected_text same over.now) }
+    ensures most { result ≤ 131070 }
+{
+    match over.kind() {
+        OverKind::Exchange { request, .. } if !same && !request.expected.ignored => {
+            count_of(request.expected.reply.as_ref())
+        }
+        _ => 1,
     }
 }
 
@@ -194,101 +227,91 @@ fn add_message(text: &mut Vec<u8>, message: Option<&Message>)
     }
 }
 
-fn add_expected(text: &mut Vec<u8>, over: &Over, same: bool) -> Result<(), AllocError>
-    ensures { OnOk result (text.new.items ≡ text.old.items ++ expected_text same over.now) }
+/// Adds what was expected, where there is room.
+#[inline(always)]
+fn add_expected(text: &mut Vec<u8>, over: &Over, same: bool)
+    requires { vec_len text.old + length (expected_text same over.now) ≤ vec_capacity text.old }
+    ensures items { text.new.items ≡ text.old.items ++ expected_text same over.now }
+    ensures len { vec_len text.new ≡ vec_len text.old + length (expected_text same over.now) }
+    ensures capacity { vec_capacity text.new ≡ vec_capacity text.old }
 {
     match over.kind() {
         OverKind::Exchange { request, .. } => {
             if request.expected.ignored {
-                return add_word(text, b"~");
+                return text.push_reserved(b'~');
             }
             if same {
-                return add_word(text, b"=");
+                return text.push_reserved(b'=');
             }
-            add_reply(text, &request.expected)
+            add_reply(text, &request.expected);
         }
-        OverKind::Unasked(_) => add_word(text, b"-"),
+        OverKind::Unasked(_) => text.push_reserved(b'-'),
     }
 }
 
-/// Adds the server's reply, where there is one.
-fn add_reply(text: &mut Vec<u8>, expected: &Expected) -> Result<(), AllocError>
-    ensures { OnOk result (text.new.items ≡ text.old.items
-        ++ reply_text (marks expected.now.varies) expected.now.reply) }
+/// Adds the server's reply, where there is one, and where there is room.
+#[inline(never)]
+fn add_reply(text: &mut Vec<u8>, expected: &Expected)
+    requires { vec_len text.old + length (reply_text (marks expected.now.varies) expected.now.reply) ≤ vec_capacity text.old }
+    ensures items { text.new.items ≡ text.old.items
+        ++ reply_text (marks expected.now.varies) expected.now.reply }
+    ensures len { vec_len text.new ≡ vec_len text.old + length (reply_text (marks expected.now.varies) expected.now.reply) }
+    ensures capacity { vec_capacity text.new ≡ vec_capacity text.old }
 {
     let Some(reply) = &expected.reply else {
-        return add_word(text, b"-");
+        return text.push_reserved(b'-');
     };
     match &expected.varies {
         Some(marks) => add_marked(text, marks.bytes(), reply.bytes()),
-        None => write_hex(text, reply.bytes()),
+        None => add_hex(text, reply.bytes()),
     }
 }
 
-/// Adds bytes beside their marks.
-fn add_marked(text: &mut Vec<u8>, marks: &[u8], bytes: &[u8]) -> Result<(), AllocError>
-    ensures { OnOk result (text.new.items ≡ text.old.items ++ bytes_text marks.now bytes.now) }
+/// Adds bytes beside their marks, where there is room.
+fn add_marked(text: &mut Vec<u8>, marks: &[u8], bytes: &[u8])
+    requires { vec_len text.old + 2 * length bytes.now ≤ vec_capacity text.old }
+    ensures items { text.new.items ≡ text.old.items ++ bytes_text marks.now bytes.now }
+    ensures len { vec_len text.new ≡ vec_len text.old + 2 * length bytes.now }
+    ensures capacity { vec_capacity text.new ≡ vec_capacity text.old }
 {
     let count = marks.len().min(bytes.len());
     for at in 0..count {
-        add_byte(text, marks[at], bytes[at])?;
+        add_byte(text, marks[at], bytes[at]);
     }
-    write_hex(text, &bytes[count..])
+    add_hex(text, &bytes[count..]);
 }
 
-/// Adds a byte, or that it is left open.
-fn add_byte(text: &mut Vec<u8>, mark: u8, byte: u8) -> Result<(), AllocError>
-    ensures { OnOk result (text.new.items ≡ text.old.items ++ byte_text mark byte) }
+/// Adds a byte, or that it is left open, where there is room.
+fn add_byte(text: &mut Vec<u8>, mark: u8, byte: u8)
+    requires { vec_len text.old + 2 ≤ vec_capacity text.old }
+    ensures items { text.new.items ≡ text.old.items ++ byte_text mark byte }
+    ensures len { vec_len text.new ≡ vec_len text.old + 2 }
+    ensures capacity { vec_capacity text.new ≡ vec_capacity text.old }
 {
     if mark == 2 {
-        return add_word(text, b"??");
+        add_bytes(text, b"??");
+    } else {
+        add_bytes(text, &hex_digits(byte));
     }
-    write_hex(text, &[byte])
 }
 
 /// Adds a moment, where there is room: seconds with ten digits, and microseconds with six.
 #[inline(always)]
-fn add_stamp(text: &mut Vec<u8>, at: u64)
+fn add_stamp(text: &mut Vec<u8>, second: &mut Second, at: u64)
     requires { vec_len text.old + 44 ≤ vec_capacity text.old }
     ensures items { text.new.items ≡ text.old.items ++ stamp_text at }
     ensures len { vec_len text.new ≤ vec_len text.old + 44 }
     ensures capacity { vec_capacity text.new ≡ vec_capacity text.old }
 {
-    add_seconds(text, at / 1000);
-    text.push_reserved(b'.');
+    if at < LATE {
+        second.go_to(at);
+        second.add_to(text);
+    } else {
+        add_number(text, at / 1000);
+        text.push_reserved(b'.');
+    }
     add_three(text, at % 1000);
     add_bytes(text, b"000");
-}
-
-/// Adds a number with ten digits at least, where there is room.
-#[inline(always)]
-fn add_seconds(text: &mut Vec<u8>, number: u64)
-    requires { vec_len text.old + 20 ≤ vec_capacity text.old }
-    ensures items { text.new.items ≡ text.old.items ++ zero_filled 10 (decimal number) }
-    ensures len { vec_len text.new ≤ vec_len text.old + 20 }
-    ensures capacity { vec_capacity text.new ≡ vec_capacity text.old }
-{
-    if number < TEN_DIGITS {
-        add_ten(text, number);
-    } else {
-        add_number(text, number);
-    }
-}
-
-/// Adds the ten digits of a number, where there is room.
-#[inline(always)]
-fn add_ten(text: &mut Vec<u8>, number: u64)
-    requires few { number < 10 ^ 10 }
-    requires room { vec_len text.old + 10 ≤ vec_capacity text.old }
-    ensures items { text.new.items ≡ text.old.items ++ zero_filled 10 (decimal number) }
-    ensures len { vec_len text.new ≡ vec_len text.old + 10 }
-    ensures capacity { vec_capacity text.new ≡ vec_capacity text.old }
-{
-    add_bytes(text, &decimal_pair(number / 100_000_000));
-    add_bytes(text, &decimal_pair(number / 1_000_000 % 100));
-    add_bytes(text, &decimal_pair(number / 10_000 % 100));
-    add_bytes(text, &decimal_pair(number / 100 % 100));
-    add_bytes(text, &decimal_pair(number % 100));
 }
 
 /// Adds the three digits of a number, where there is room.
@@ -302,27 +325,4 @@ fn add_three(text: &mut Vec<u8>, number: u64)
 {
     text.push_reserved(b'0' + (number / 100) as u8);
     add_bytes(text, &decimal_pair(number % 100));
-}
-
-/// Adds a number, where there is room. (Inlined, since most are of one digit.)
-#[inline(always)]
-#[tactic(auto, using(crate::proofs::Marked::decimal_digit))]
-fn add_number(text: &mut Vec<u8>, number: u64)
-    requires { vec_len text.old + 20 ≤ vec_capacity text.old }
-    ensures items { text.new.items ≡ text.old.items ++ decimal number }
-    ensures len { vec_len text.new ≤ vec_len text.old + 20 }
-    ensures capacity { vec_capacity text.new ≡ vec_capacity text.old }
-{
-    if number < 10 {
-        text.push_reserved(b'0' + number as u8);
-        return;
-    }
-    let mut buffer = Buffer::new();
-    add_bytes(text, buffer.format(number).as_bytes());
-}
-
-fn add_word(text: &mut Vec<u8>, word: &[u8]) -> Result<(), AllocError>
-    ensures { OnOk result (text.new.items ≡ text.old.items ++ word.now) }
-{
-    text.extend_from_slice(word)
 }

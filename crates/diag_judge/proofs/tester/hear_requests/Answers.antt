@@ -3,7 +3,8 @@ use Rattle.std.proofs.lemmas.List.{append-nil, nil_from_length, reverse-reverse,
 use Rattle.std.specs.Prelude.{reverse}
 use Rattle.diag_exchange.specs.Exchanges.{over_after}
 use Rattle.diag_exchange.specs.declared.happening.Happening.{Happening}
-use Rattle.diag_expect.specs.declared.entered.Entered.{Entered}
+use Rattle.diag_exchange.specs.declared.open.Open.{Open}
+use Rattle.diag_expect.specs.Entered.{Entered}
 use Rattle.diag_listen.specs.Listening.{Listens}
 use Rattle.diag_judge.specs.Judging.{requests_happen}
 use Rattle.diag_judge.proofs.Lines.{next_of, request_heard}
@@ -33,7 +34,7 @@ loop-turn-preserved c =
           (sym next.1 ∙ ap (λ k. take k old) count)
           (request_heard
           c.args.setup.now c.args.at c.loop-turn.listener c.ask.new.self c.args.over.now.items c.loop-turn.over.items c.ask.new.over.items (take n old) one
-          c.in_ok-request.request E hs c.in_ok-request.ensures c.in_ok-ask.ensures.heard (inv.heard E hs l));
+          c.in_ok-asked.asked.request E hs (ap (λ (e : Open). e.request) c.in_ok-asked.ensures) c.in_ok-ask.ensures.heard (inv.heard E hs l));
       link_setup = c.ask.ensures.setup ∙ inv.link_setup;
     }
 

@@ -27,7 +27,7 @@ returns-clause-ok c =
     let one = lines_at setup stamps d judged in
     let two = count_lines setup 1 counts in
     let three = last_line (nothing_in counts) in
-    let first : c.write_batch.new.text.items ≡ one = c.in_ok-write_batch.ensures ∙ ap (λ w. w ++ one) c.new-end.ensures.items in
+    let first : c.write_batch.new.text.items ≡ one = c.in_ok-write_batch.ensures.ok ∙ ap (λ w. w ++ one) c.new-end.ensures.items in
     let second : c.add_counts.new.text.items ≡ one ++ two =
     c.in_ok-add_counts.ensures ∙ ap₂ (λ (w : List ℕ) (k : List Counts). w ++ count_lines setup 1 k) first c.as_slice-2.ensures.value in
     let nothing = c.is_nothing.ensures ∙ ap nothing_in c.as_slice-3.ensures.value in

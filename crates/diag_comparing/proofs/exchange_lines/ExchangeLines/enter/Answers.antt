@@ -3,7 +3,7 @@ use Rattle.std.proofs.Math.ListN.{length-set}
 use Rattle.std.proofs.lemmas.Option.{slice_get_read}
 use Rattle.std.proofs.lemmas.Result.{on_ok_weaker}
 use Rattle.std.specs.Prelude.{option_copied, slice_get}
-use Rattle.diag_expect.specs.declared.entered.Entered.{Entered}
+use Rattle.diag_expect.specs.Entered.{Entered}
 use Rattle.diag_judge.specs.declared.tester.Tester.{Tester}
 use Rattle.diag_comparing.specs.Keeping.{IsTester}
 use Rattle.diag_comparing.proofs.Entering.{none_entered, one_entered, own_tester}

@@ -58,10 +58,9 @@ returns-clause-taken c =
     let stamps = c.take.new.self in
     let batch = c.take_each.new.judged.items in
     let more = lines_at setup stamps d batch in
-    let own : c.write_batch.new.text.items ≡ more = c.in_ok-write_batch.ensures ∙ ap (λ w. w ++ more) c.clear.ensures.items in
     record {
       more = more;
-      grown = c.in_ok-extend_from_slice.ensures.items ∙ ap (λ w. c.args.text.now.items ++ w) (c.as_slice.ensures.value ∙ own);
+      grown = c.in_ok-write_batch.ensures.ok;
       holds = λ lines line K ends taken.
           let count = c.in_ok-line.ensures ∙ ap (λ k. k + 1) taken.count in
           let one = c.in_ok-self.ensures.each lines line K (is_line setup lines line said span clock K n count ends) taken.each in

@@ -11,12 +11,13 @@ use Rattle.diag_exchange.proofs.exchanges.Exchanges.ask.Goals as goal
 pub returns-clause-ok : goal.returns-clause-ok
 returns-clause-ok c = λ hs s.
     let es = c.args.self.now.live.items in
-    let same : c.get.result.now.request ≡ c.args.request = ap (λ (e : Open). e.request) (c.get.ensures ∙ c.in_ok-open.ensures) in
-    let moved : c.ask_again.new.live.items ≡ map (asked_again c.args.request) es =
-    c.ask_again.ensures.items ∙ ap₂ (λ (request : AskedRequest) (xs : List Open). map (asked_again request) xs) same c.reserve-2.ensures.items in
+    let request = c.args.asked.request in
+    let same : c.get.result.now.request ≡ request = ap (λ (e : Open). e.request) c.get.ensures in
+    let moved : c.ask_again.new.live.items ≡ map (asked_again request) es =
+    c.ask_again.ensures.items ∙ ap₂ (λ (r : AskedRequest) (xs : List Open). map (asked_again r) xs) same c.reserve-2.ensures.items in
     took_as es c.args.self.now.coming
-    (Asked c.args.request) c.push_reserved.new.self.items c.args.self.now.coming c.args.over.now.items c.take_out.new.over.items tt hs s
+    (Asked request) c.push_reserved.new.self.items c.args.self.now.coming c.args.over.now.items c.take_out.new.over.items tt hs s
     (c.push_reserved.ensures.items ∙ ap₂ (λ (xs : List Open) (x : Open). xs ++ x ∷ []) (c.take_out.ensures.live
-    ∙ ap (filter (goes_on true)) moved) c.in_ok-open.ensures)
+    ∙ ap (filter (goes_on true)) moved) c.requires)
     refl
     (c.take_out.ensures.over ∙ ap₂ (λ (xs ys : List Over). xs ++ ys) c.reserve.ensures.items (ap (λ xs. map told (filter (is_done true) xs)) moved))
