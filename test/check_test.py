@@ -2,8 +2,9 @@
 """Holds `uds_play check` against the program's runs: setups with one thing wrong, each in turn, and with several, of a
 seed. The first line of `check` begins with the fault that a run tells, and names a place; where a run takes the setup
 `check` finds no fault, and its status says which. Each line of `check` tells the line of the setup on which the key or the
-table was written here, and none where that isn't plain. Of rows of answers it says which never apply, for an earlier one takes
-all of their requests: those, and no others, for which no request of a few bytes says otherwise.
+table was written here, and none where that isn't plain. Of rows of answers it says which never apply, for nothing leads to
+their session, or an earlier one takes all of their requests: those, and no others, for which no request of a few bytes says
+otherwise.
 The last line is 'N passed, M failed'."""
 import copy
 import itertools
@@ -34,9 +35,10 @@ MOST_ROWS = {"tester": 8, "did": 1024, "code": 4096, "routine": 256, "level": 4,
 # rows of answers, and the requests, sessions and unlocked levels that tell them apart; 0 is none
 ITEMS = ("22", "2E", "2e", "..")
 REQUESTS = [request for count in (1, 2, 3, 4) for request in itertools.product((0x22, 0x2E, 0x31), repeat=count)]
-ACCESSES = [(1, 0)] + [(session, level) for session in (2, 3) for level in (0, 1, 3)]
+ACCESSES = [(1, 0)] + [(session, level) for session in (2, 3, 4) for level in (0, 1, 3)]
 ROW_SETUPS = 300
 TAKEN = re.compile(r"(?:line \d+: )?request of \[\[answer\]\] (\d+) is .*: the row never applies, for \[\[answer\]\] (\d+) with ")
+UNREACHED = re.compile(r"(?:line \d+: )?session of \[\[answer\]\] (\d+) is \d+: the row never applies, for nothing leads to session ")
 UNPLACED = "the look at the setup found another first"
 SEVERAL = 400
 # what a line of `check` tells of: a key or, where one is missing, a table
@@ -337,33 +339,51 @@ def compare(folder, name, written, before=b""):
 
 def random_row(chance):
     pattern = "".join(chance.choice(ITEMS) for _ in range(chance.randint(1, 3))) + chance.choice(("", "*"))
-    return {"request": pattern, "session": chance.choice((0, 0, 1, 2, 3)), "level": chance.choice((0, 0, 1, 3))}
+    row = {"request": pattern, "session": chance.choice((0, 0, 1, 2, 3, 4)), "level": chance.choice((0, 0, 1, 3))}
+    return {**row, "reply": [""], "enter": chance.choice((1, 2, 3, 4))} if chance.random() < 0.4 else row
 
 
-def uses(row):
+def accesses(row):
+    """The sessions and unlocked levels in which a row applies."""
+    return [it for it in ACCESSES if row["session"] in (0, it[0]) and row["level"] in (0, it[1])]
+
+
+def reached(rows):
+    """The sessions that a tester may come to, from the default session on: the server enters 3, and a row what it says."""
+    found, new = set(), {1, 3}
+    while new:
+        found |= new
+        new = {row["enter"] for row in rows if "enter" in row and any(session in found for session, _ in accesses(row))} - found
+    return found
+
+
+def uses(row, sessions):
     """What a row applies to, each request with a session and an unlocked level."""
     pattern = row["request"].rstrip("*")
     items = [pattern[at : at + 2] for at in range(0, len(pattern), 2)]
     has_length = (lambda n: n >= len(items)) if row["request"].endswith("*") else (lambda n: n == len(items))
     fitting = [it for it in REQUESTS if has_length(len(it)) and all(item == ".." or int(item, 16) == b for item, b in zip(items, it))]
-    accesses = [it for it in ACCESSES if row["session"] in (0, it[0]) and row["level"] in (0, it[1])]
-    return set(itertools.product(fitting, accesses))
+    return set(itertools.product(fitting, [it for it in accesses(row) if it[0] in sessions]))
 
 
 def compare_rows(folder, rows):
-    """Whether `check` says of each row that never applies, but by its own session and level, which earlier one takes all."""
+    """Whether `check` says of each row that never applies, but by its own session and level, which earlier one takes all, or
+    that nothing leads to its session."""
     path = os.path.join(folder, "setup.toml")
     tree = {**GOOD, "answer": rows}
     with open(path, "w", encoding="utf-8") as file:
         file.writelines(f"{key} = {value_text(value)}\n" for key, value in tree.items())
     check = ran("check", path)
-    found = {int(it[1]): int(it[2]) for it in map(TAKEN.match, check.stdout.splitlines()) if it}
-    every, want = [uses(row) for row in rows], {}
+    taken = {int(it[1]): int(it[2]) for it in map(TAKEN.match, check.stdout.splitlines()) if it}
+    unreached = {int(it[1]) for it in map(UNREACHED.match, check.stdout.splitlines()) if it}
+    sessions, want = reached(rows), {}
+    every = [uses(row, sessions) for row in rows]
     for number, own in enumerate(every, 1):
         takers = [first for first, other in enumerate(every[: number - 1], 1) if own <= other]
         if own and takers:
             want[number] = takers[0]
-    told(found == want, "rows", f"{rows}: {want} wanted, {check.stdout!r}")
+    far = {number for number, row in enumerate(rows, 1) if row["session"] not in {0, *sessions}}
+    told((taken, unreached) == (want, far), "rows", f"{rows}: {want} and {far} wanted, {check.stdout!r}")
 
 
 def main():

@@ -13,6 +13,7 @@ mod near;
 mod odd;
 mod pairs;
 mod places;
+mod sessions;
 mod syntax;
 mod taken;
 mod value;

@@ -242,7 +242,7 @@ impl<'a> Look<'a> {
         self.decimal(tree, "functional", Row::UNIT)?;
         self.without_fd(tree)?;
         self.all_templates(tree)?;
-        self.taken(tree)?;
+        self.idle_rows(tree)?;
         self.empties(tree)?;
         self.doubles(tree)?;
         self.references(tree)

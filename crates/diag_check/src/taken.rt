@@ -1,9 +1,10 @@
-//! Rows of answers that never apply, for a row before them takes all of their requests.
+//! Rows of answers that never apply: for a session that nothing leads to, or for requests that a row before them takes.
 
 use crate::finding::{Row, Shown};
 use crate::keys::{MOST_ANSWERS, Table};
 use crate::look::{Look, list_at};
 use crate::odd::is_never_met;
+use crate::sessions::Sessions;
 use crate::value::{number, pattern_parts};
 use std::alloc::{AllocError, Global};
 use toml::{Table as Tree, Value};
@@ -27,7 +28,7 @@ struct Rule<'a> {
 
 impl<'a> Rule<'a> {
     /// That of the row of a number. None where a value of it isn't what it has to be, and where it never applies by itself.
-    fn of(row: &'a Value, number: usize) -> Option<Rule<'a>> {
+    fn of(row: &'a Value, number: usize, sessions: &Sessions) -> Option<Rule<'a>> {
         let Value::Table(row) = row else {
             return None;
         };
@@ -35,9 +36,14 @@ impl<'a> Rule<'a> {
         let (items, more) = pattern_parts(pattern)?;
         let session = condition(row, "session")?;
         let level = condition(row, "level")?;
-        if is_never_met(session, level) {
+        if is_never_met(session, level) || !sessions.has(session) {
             return None;
         }
+        let session = if session == 0 && level > 0 {
+            sessions.of_levels()
+        } else {
+            session
+        };
         Some(Rule {
             number,
             pattern,
@@ -71,10 +77,18 @@ impl<'a> Rule<'a> {
 }
 
 impl Look<'_> {
-    /// Rows of answers that never apply. Of more rows than a setup may have the first are looked at, for each is held
-    /// against all before it.
-    pub fn taken(&mut self, tree: &Tree) -> Result<(), AllocError> {
-        let rules = rules(self.alloc, list_at(tree, Table::Answer.path()))?;
+    /// Rows of answers that never apply, but for those of which their own session and level tell it.
+    pub fn idle_rows(&mut self, tree: &Tree) -> Result<(), AllocError> {
+        let rows = list_at(tree, Table::Answer.path());
+        let sessions = Sessions::of(self.alloc, rows)?;
+        self.unreached(rows, &sessions)?;
+        self.taken(rows, &sessions)
+    }
+
+    /// Rows of answers all of whose requests an earlier one takes. Of more rows than a setup may have the first are looked at,
+    /// for each is held against all before it.
+    fn taken(&mut self, rows: &[Value], sessions: &Sessions) -> Result<(), AllocError> {
+        let rules = rules(self.alloc, rows, sessions)?;
         for (index, rule) in rules.iter().enumerate() {
             if let Some(first) = rules.iter().take(index).find(|first| first.takes(rule)) {
                 self.taken_one(rule, first)?;
@@ -96,10 +110,14 @@ impl Look<'_> {
 }
 
 /// The rules of a setup's rows of answers, in their order.
-fn rules(alloc: Global, rows: &[Value]) -> Result<Vec<Rule<'_>>, AllocError> {
+fn rules<'a>(
+    alloc: Global,
+    rows: &'a [Value],
+    sessions: &Sessions,
+) -> Result<Vec<Rule<'a>>, AllocError> {
     let mut rules = Vec::new(alloc);
     for (index, row) in rows.iter().enumerate().take(MOST_ANSWERS) {
-        if let Some(rule) = Rule::of(row, index.saturating_add(1)) {
+        if let Some(rule) = Rule::of(row, index.saturating_add(1), sessions) {
             rules.push(rule)?;
         }
     }
