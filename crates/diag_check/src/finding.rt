@@ -4,7 +4,7 @@ ghost use Rattle.std.specs.Prelude.{Some};
 ghost use Rattle.diag_check.specs.Report.{finding_text, line_text};
 
 use crate::keys::{Kind, MOST_CODE, Table};
-use crate::value::may_be_meant;
+use crate::value::{is_spaced_pattern, may_be_meant};
 use diag_config::ConfigFault;
 use std::alloc::{AllocError, Global};
 use std::fmt;
@@ -193,6 +193,11 @@ fn write_meant<W: fmt::Write>(f: &mut fmt::Formatter<W>, kind: Kind, text: &str)
     }
     match kind {
         Kind::Bytes(..) | Kind::Seed => write_meant_bytes(f, kind, text),
+        Kind::Pattern if is_spaced_pattern(text) => {
+            write!(f, "; ")?;
+            write_digits(f, text)?;
+            write!(f, "?")
+        }
         Kind::Templates | Kind::Patterns => write!(f, "; a list stands between [ and ]"),
         _ if kind.is_number() => match code_of(kind, text) {
             Some(code) => write!(f, "; 0x{code:06X}, without quotes?"),

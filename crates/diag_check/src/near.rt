@@ -7,8 +7,20 @@ use strsim::osa_distance;
 /// The longest name that is compared, in bytes.
 const MOST_COMPARED: usize = 32;
 
-/// What helps with a key of a table that is passed over: the key of this name there, but for the case of its letters, else
-/// where a key of this name belongs, else the nearest one.
+/// Words of the standard, or of other formats, for a key of a table.
+const WORDS: [(Table, &str, &str); 8] = [
+    (Table::Unit, "dtc", "code"),
+    (Table::Unit, "dtcs", "code"),
+    (Table::Code, "dtc", "code"),
+    (Table::Code, "id", "code"),
+    (Table::Did, "data", "value"),
+    (Table::Did, "did", "id"),
+    (Table::Answer, "response", "reply"),
+    (Table::Level, "level", "sub"),
+];
+
+/// What helps with a key of a table that is passed over: the key of this name there, but for the case of its letters, or
+/// what it is called there, else where a key of this name belongs, else the nearest one.
 pub fn hint(alloc: Global, name: &str, table: Table) -> Result<String, AllocError> {
     let lower = name.to_ascii_lowercase(alloc)?;
     let lower = lower.as_str();
@@ -21,6 +33,9 @@ pub fn hint(alloc: Global, name: &str, table: Table) -> Result<String, AllocErro
     if let (Table::Did, "level") = (table, lower) {
         return format!(in alloc; "; read_level or write_level?");
     }
+    if let Some(own) = called(lower, table) {
+        return format!(in alloc; "; {own}?");
+    }
     if is_of_unit(lower) {
         return format!(in alloc; "; it belongs to the whole unit, before the first [[..]]");
     }
@@ -29,10 +44,37 @@ pub fn hint(alloc: Global, name: &str, table: Table) -> Result<String, AllocErro
         let owners = owners.as_str();
         return format!(in alloc; "; it belongs to {owners}");
     }
-    match nearest(alloc, lower, table)? {
-        Some(near) => format!(in alloc; "; {near}?"),
+    if let Some(near) = nearest(alloc, lower, table)? {
+        return format!(in alloc; "; {near}?");
+    }
+    match begun(lower, Table::Unit) {
+        Some(own) => {
+            format!(in alloc; "; {own}? it belongs to the whole unit, before the first [[..]]")
+        }
         None => Ok(String::new(alloc)),
     }
+}
+
+/// The key of a table that is called by another word, or by less of its name.
+fn called(word: &str, table: Table) -> Option<&'static str> {
+    let own = WORDS
+        .iter()
+        .find(|(at, other, _)| *at == table && *other == word);
+    match own {
+        Some((_, _, name)) => Some(*name),
+        None => begun(word, table),
+    }
+}
+
+/// The first key of a table whose name begins with this word and `_`.
+fn begun(word: &str, table: Table) -> Option<&'static str> {
+    for key in &KEYS {
+        let behind = key.name.strip_prefix(word).unwrap_or("");
+        if key.table == table && !word.is_empty() && behind.starts_with('_') {
+            return Some(key.name);
+        }
+    }
+    None
 }
 
 /// What helps where a table has this key, and what stands there is passed over.

@@ -16,7 +16,7 @@ pub fn slip(alloc: Global, text: &str, error: &Error) -> Result<Finding, AllocEr
     let at = at.strip_prefix("TOML parse error at line ").unwrap_or(at);
     let (line, column) = at.split_once(", ").unwrap_or(("", ""));
     let message = message.trim_end();
-    let hint = Hint::of(text, start_of(error));
+    let hint = Hint::of(text, start_of(error), message);
     let place = format!(in alloc; "{column}: {message}{hint}")?;
     Ok(Finding {
         fault: ConfigFault::Syntax,
@@ -44,32 +44,74 @@ fn number(text: &str) -> Option<usize> {
 #[derive(Clone, Copy)]
 enum Hint<'a> {
     Recording,
+    Journal,
     Json,
+    Xml,
     Yaml,
+    /// A comment that doesn't begin with #.
+    Comment,
+    /// Quotes that aren't those of TOML.
+    Quotes,
+    /// More than a comment behind a value.
+    Behind,
+    /// A key that stands twice in the table of this list; of the whole unit its path is empty.
+    Twice(&'static str),
     /// What a key wants, and what stands behind it.
     Value(Kind, &'a str),
     Nothing,
 }
 
 impl<'a> Hint<'a> {
-    /// What helps with a text that is no TOML from this byte on.
-    fn of(text: &'a str, start: usize) -> Hint<'a> {
-        let (before, behind) = text.split_at_checked(start).unwrap_or((text, ""));
+    /// What helps with a text that is no TOML from this byte on, of which `toml` says so.
+    fn of(text: &'a str, start: usize, message: &str) -> Hint<'a> {
+        let (before, _) = text.split_at_checked(start).unwrap_or((text, ""));
         let (above, head) = before.rsplit_once('\n').unwrap_or(("", before));
         let line = line_behind(text, before.len().saturating_sub(head.len()));
-        if is_recording(text) {
-            Hint::Recording
-        } else if text.trim_start().starts_with('{') {
-            Hint::Json
-        } else if text.starts_with("---") || is_yaml(line) {
-            Hint::Yaml
-        } else if head.contains('=') {
-            value_hint(above, line)
-        } else {
-            Hint::Nothing
+        match other_format(text, line) {
+            Some(hint) => hint,
+            None => in_line(above, head, line, message),
         }
     }
 }
+
+/// What a text is that isn't TOML as a whole; `line` is the first that isn't.
+fn other_format<'a>(text: &str, line: &str) -> Option<Hint<'a>> {
+    if is_recording(text) {
+        Some(Hint::Recording)
+    } else if text.starts_with("diag-journal ") {
+        Some(Hint::Journal)
+    } else if text.trim_start().starts_with('{') {
+        Some(Hint::Json)
+    } else if text.trim_start().starts_with('<') {
+        Some(Hint::Xml)
+    } else if text.starts_with("---") || is_yaml(line) {
+        Some(Hint::Yaml)
+    } else {
+        None
+    }
+}
+
+/// What helps with a line that is no TOML from behind its head on, below this text.
+fn in_line<'a>(above: &str, head: &str, line: &'a str, message: &str) -> Hint<'a> {
+    if line.trim_start().starts_with("//") || line.trim_start().starts_with(';') {
+        Hint::Comment
+    } else if line.contains(CURLY) {
+        Hint::Quotes
+    } else if message.starts_with("duplicate key") {
+        Hint::Twice(open_table(above).map_or("", |table| table.path()))
+    } else if !head.contains('=') {
+        Hint::Nothing
+    } else if message.starts_with("unexpected key or value") {
+        Hint::Behind
+    } else {
+        value_hint(above, line)
+    }
+}
+
+/// The quotes that a word processor makes.
+const CURLY: [char; 6] = [
+    '\u{2018}', '\u{2019}', '\u{201A}', '\u{201C}', '\u{201D}', '\u{201E}',
+];
 
 /// Whether a text begins as a recording of `candump -L` does.
 fn is_recording(text: &str) -> bool {
@@ -129,8 +171,21 @@ impl fmt::Display for Hint<'_> {
     fn fmt<W: fmt::Write>(&self, f: &mut fmt::Formatter<W>) -> fmt::Result {
         match self {
             Hint::Recording => write!(f, "; this is a recording, and no setup"),
+            Hint::Journal => write!(f, "; this is a journal, and no setup"),
             Hint::Json => write!(f, "; this is JSON: {IS_TOML}"),
+            Hint::Xml => write!(f, "; this is XML: {IS_TOML}"),
             Hint::Yaml => write!(f, "; this is YAML: {IS_TOML}"),
+            Hint::Comment => write!(f, "; a comment begins with #"),
+            Hint::Quotes => write!(f, "; quotes are \" or ', and not those of a word processor"),
+            Hint::Behind => write!(
+                f,
+                "; behind a value stands nothing but a comment, which begins with #"
+            ),
+            Hint::Twice("") => write!(f, "; it stands above, too"),
+            Hint::Twice(path) => write!(
+                f,
+                "; it stands above, too: [[{path}]] begins the next one"
+            ),
             Hint::Value(kind, value) => write_wanted(f, *kind, value),
             Hint::Nothing => Ok(()),
         }

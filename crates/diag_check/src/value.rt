@@ -52,6 +52,14 @@ pub fn pattern_parts(value: &Value) -> Option<(&[u8], bool)> {
     is_pattern.then_some((items, more))
 }
 
+/// Whether a text is a pattern but for single spaces between its items.
+pub fn is_spaced_pattern(text: &str) -> bool {
+    let items = text.strip_suffix('*').unwrap_or(text).trim_end();
+    items.split(' ').all(|part| {
+        !part.is_empty() && part.as_bytes().chunks(2).all(is_pattern_item)
+    })
+}
+
 /// How many items a pattern's text has, where it is one.
 pub fn pattern_items(value: &Value) -> Option<usize> {
     let (items, _) = pattern_parts(value)?;
