@@ -354,6 +354,12 @@ fn files_of<'a>(alloc: Global, name: &str, words: &ArgMatches<'a>) -> Result<Tas
     Ok(Task::Files { job, paths })
 }
 
+/// Whether the flag that leaves out notes stands before the command and behind it, each of which clap takes.
+fn is_quiet_twice(words: &[String]) -> bool {
+    let flags = words.iter().take_while(|word| word.as_str() != "--");
+    flags.filter(|word| word.as_str() == "--quiet").count() > 1
+}
+
 /// What the words ask for, or why they are refused.
 pub fn read_words<'a>(alloc: Global, words: &'a [String]) -> Result<Request<'a>, Refusal> {
     let matches = match whole_command(alloc)?.try_get_matches_from(words) {
@@ -366,6 +372,9 @@ pub fn read_words<'a>(alloc: Global, words: &'a [String]) -> Result<Request<'a>,
     let Some(config) = inner.get_str("CONFIG") else {
         return Err(Refusal::Usage(String::new(alloc)));
     };
+    if is_quiet_twice(words) {
+        return Err(Refusal::Usage(String::new(alloc)));
+    }
     let task = task_of(alloc, name, inner)?;
     let quiet = inner.get_flag("quiet") || matches.get_flag("quiet");
     Ok(Request {
