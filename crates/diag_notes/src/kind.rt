@@ -5,6 +5,16 @@ use crate::line::FoundLine;
 
 /// What a file is by its first bytes, where it is none of lines of ASCII, and what helps.
 pub fn file_kind(first: &[u8]) -> Option<&'static str> {
+    recorder_kind(first).or(packed_kind(first)).or(match first {
+        [0xFF, 0xFE, ..] | [0xFE, 0xFF, ..] | [_, 0, _, 0, ..] | [0, _, 0, _, ..] => {
+            Some("UTF-16: save it as ASCII")
+        }
+        _ => None,
+    })
+}
+
+/// What a recording of other tools is whose first bytes are no text.
+fn recorder_kind(first: &[u8]) -> Option<&'static str> {
     match first {
         [b'L', b'O', b'G', b'G', ..] => {
             Some("BLF: convert it with can_logconvert of python-can")
@@ -17,12 +27,20 @@ pub fn file_kind(first: &[u8]) -> Option<&'static str> {
         [b'M', b'D', b'F', b' ', ..] => {
             Some("MDF: export it as ASC, which asc2log of can-utils converts")
         }
+        [b'S', b'Q', b'L', b'i', b't', b'e', b' ', ..] => {
+            Some("a data base, as python-can writes one: convert it with can_logconvert")
+        }
+        _ => None,
+    }
+}
+
+/// What packed a file.
+fn packed_kind(first: &[u8]) -> Option<&'static str> {
+    match first {
         [0x1F, 0x8B, ..] => Some(
             "packed by gzip: unpack it, or pipe what zcat writes into bus, verify or compare",
         ),
-        [0xFF, 0xFE, ..] | [0xFE, 0xFF, ..] | [_, 0, _, 0, ..] | [0, _, 0, _, ..] => {
-            Some("UTF-16: save it as ASCII")
-        }
+        [b'P', b'K', 3, 4, ..] => Some("packed by zip: unpack it"),
         _ => None,
     }
 }
@@ -68,6 +86,8 @@ fn by_text(line: &str) -> &'static str {
         "it is no frame, but as a line of a setup: the setup comes first, then the recording"
     } else if text.starts_with('(') {
         in_its_form(line)
+    } else if text.starts_with('{') || text.starts_with("[{") {
+        "it is JSON: a line has the form (1.000000) can0 7E0#021003, as candump -L writes it"
     } else if line.contains(',') || line.contains(';') {
         "it is CSV: a line has the form (1.000000) can0 7E0#021003, as candump -L writes it"
     } else {
@@ -97,10 +117,14 @@ fn behind_stamp(rest: &str) -> &'static str {
         "it has no identifier and #, as 7E0#021003"
     } else if rest.contains('\t') {
         "its parts stand apart by a tab, where a space is wanted"
+    } else if rest.contains(" #") {
+        "a space stands before #: the identifier and # stand together, as in 7E0#021003"
     } else if !rest.starts_with(' ') {
         "behind its stamp a space is wanted, as in (1.000000) can0 7E0#021003"
     } else if !has_interface(rest) {
         "it has no interface: its name stands before the identifier, as in (1.000000) can0 7E0#021003"
+    } else if rest.contains("#0x") {
+        "bytes have no 0x: two hex digits each behind #, as 7E0#021003"
     } else if rest.contains("0x") {
         "an identifier has no 0x: 3 hex digits up to 7FF, or 8, as 7E0#021003"
     } else if rest.contains("##") {
@@ -123,12 +147,25 @@ fn has_many_digits(rest: &str) -> bool {
     data.bytes().take_while(|c| c.is_ascii_hexdigit()).count() > 16
 }
 
-/// Whether a line is an interface, an identifier, and a length in brackets.
+/// Whether a line is an interface, maybe a direction with two flags, an identifier, and a length in brackets.
 fn is_screen(line: &str) -> bool {
     let mut words = line.split_ascii_whitespace();
-    let (name, id, length) = (words.next(), words.next(), words.next());
-    let has_length = length.is_some_and(|length| length.starts_with('[') && length.ends_with(']'));
-    name.is_some() && id.is_some_and(is_hex) && has_length
+    let (name, second) = (words.next(), words.next());
+    let is_directed = second.is_some_and(|word| word == "RX" || word == "TX");
+    let id = if is_directed {
+        let (_, _) = (words.next(), words.next());
+        words.next()
+    } else {
+        second
+    };
+    let length = words.next();
+    name.is_some() && id.is_some_and(is_hex) && length.is_some_and(is_length)
+}
+
+/// Whether a word is digits in brackets.
+fn is_length(word: &str) -> bool {
+    let digits = word.strip_prefix('[').unwrap_or("").strip_suffix(']');
+    digits.is_some_and(|digits| is_digits(digits, 1, 2))
 }
 
 fn is_journal(line: &str) -> bool {
@@ -152,15 +189,31 @@ fn is_setup(line: &str) -> bool {
     line.starts_with("[[") || line.starts_with("# ") || line.contains(" = ")
 }
 
-/// What a text that isn't a setup looks like.
-pub fn instead_of_setup(text: &[u8]) -> Option<&'static str> {
-    if is_recording(text) {
-        Some("recording")
+/// What stands where a setup is wanted.
+#[derive(Clone, Copy, PartialEq, Eq, Debug)]
+pub enum Instead {
+    Recording,
+    Journal,
+}
+
+/// What a file is that is no setup, as far as its first bytes tell.
+pub fn instead_of_setup(text: &[u8]) -> Option<Instead> {
+    if is_recording(text) || is_other_recording(text) {
+        Some(Instead::Recording)
     } else if text.starts_with(b"diag-journal ".as_slice()) {
-        Some("journal")
+        Some(Instead::Journal)
     } else {
         None
     }
+}
+
+/// Whether a file is a recording in another form than that of `candump -L`, as far as its first bytes tell.
+fn is_other_recording(text: &[u8]) -> bool {
+    let first = text.split(|c| *c == b'\n').next().unwrap_or(b"");
+    recorder_kind(text).is_some()
+        || first.starts_with(b"date ".as_slice())
+        || first.starts_with(b";$".as_slice())
+        || is_screen(std::str::from_utf8(first).unwrap_or(""))
 }
 
 /// Whether the first line of a text that is neither empty nor a comment is one of a recording.

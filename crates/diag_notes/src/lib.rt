@@ -10,7 +10,7 @@ mod place;
 mod seen;
 
 pub use journal::expected;
-pub use kind::{TOO_LONG, file_kind, instead_of_setup, is_recording, looks};
+pub use kind::{Instead, TOO_LONG, file_kind, instead_of_setup, is_recording, looks};
 pub use line::{FoundLine, ShownLine, line_at};
 pub use place::Place;
 pub use seen::{Recording, Side};

@@ -14,6 +14,7 @@ ghost use Rattle.diag_run.specs.Run.{GivesRun, read_of};
 mod answer;
 mod command;
 mod flow_lines;
+mod last;
 mod notes;
 mod pace;
 mod progress;
@@ -32,6 +33,7 @@ use diag_run::{Ending, Job, Outcome, read_config, run_bus_and_tell, run_text};
 use diag_setup::Setup;
 use diag_stored::{CONFIG, LOG_A, LOG_B};
 use diag_text::{ReadFault, RunFault, read_whole, write_text, write_whole};
+use last::Known;
 use notes::{FileKind, Notes, note_usage};
 use progress::Progress;
 use source::Source;
@@ -89,10 +91,15 @@ fn main(rt: HostRuntime) -> ExitCode {
 
 /// Whether the words name the command that hears standard input in a thread of its own.
 fn is_live(words: &[String]) -> bool {
+    command_of(words) == "live"
+}
+
+/// The word that names the command; an empty one where there is none.
+fn command_of(words: &[String]) -> &str {
     let mut behind = words.iter().skip(1);
     behind
         .find(|word| word.as_str() != "--quiet")
-        .is_some_and(|word| word.as_str() == "live")
+        .map_or("", |word| word.as_str())
 }
 
 /// Whether notes are left out, as far as words tell that clap doesn't take.
@@ -170,7 +177,7 @@ fn run_words<R: Print + Eprint + Files + Input + AllocGlobal + Clock + Threads +
             let status = refuse(rt, &refusal);
             if let Refusal::Usage(text) = &refusal {
                 if !is_quiet(words) {
-                    note_usage(rt, text.as_str(), is_live(words));
+                    note_usage(rt, text.as_str(), command_of(words));
                 }
             }
             status
@@ -276,10 +283,10 @@ fn finish<R: Eprint + Files + AllocGlobal>(
     rt: &R,
     notes: &Notes<'_>,
     outcome: &Outcome,
-    first: &[u8],
+    known: Known<'_>,
 ) -> ExitCode {
     let status = tell(rt, outcome);
-    notes.behind(rt, outcome, first);
+    notes.behind(rt, outcome, known);
     status
 }
 
@@ -293,7 +300,7 @@ fn run_check<R: Print + Eprint + Files + Input + AllocGlobal>(
     };
     let (text, status) = match look_at(rt.alloc(), &mut config) {
         Ok(told) => told,
-        Err(outcome) => return finish(rt, notes, &outcome, &[]),
+        Err(outcome) => return finish(rt, notes, &outcome, Known::NOTHING),
     };
     match write_text(&mut io::writer(rt), text.as_slice()) {
         Ok(()) => ExitCode::from(status),
@@ -353,7 +360,7 @@ fn run_files<R: Print + Eprint + Files + Input + AllocGlobal + Threads + Wait + 
 ) -> ExitCode {
     notes.before(rt);
     match open_all(rt, notes.config, notes.files) {
-        Ok((config, files)) => finish(rt, notes, &run_job(rt, job, config, files), &[]),
+        Ok((config, files)) => finish(rt, notes, &run_job(rt, job, config, files), Known::NOTHING),
         Err(AllocError) => refuse(rt, &Refusal::Memory),
     }
 }
@@ -420,7 +427,7 @@ fn run_capture<S: Ending, R: Print + Eprint + Files + Input + AllocGlobal + Cloc
         None => outcome_of(rt.alloc(), sink, config, capture, name, &mut out),
     };
     match outcome {
-        Ok(outcome) => finish(rt, notes, &outcome, first.as_slice()),
+        Ok(outcome) => finish(rt, notes, &outcome, Known::first(first.as_slice())),
         Err(AllocError) => refuse(rt, &Refusal::Memory),
     }
 }
@@ -480,7 +487,7 @@ fn run_live<R: Print + Eprint + Files + Input + AllocGlobal + Clock + Wait>(
     };
     let setup = match setup_of(rt.alloc(), &mut config) {
         Ok(setup) => setup,
-        Err(outcome) => return finish(rt, notes, &outcome, &[]),
+        Err(outcome) => return finish(rt, notes, &outcome, Known::NOTHING),
     };
     let mut record = match Record::create(rt, record) {
         Ok(record) => record,
@@ -499,9 +506,16 @@ fn run_live<R: Print + Eprint + Files + Input + AllocGlobal + Clock + Wait>(
     };
     let mut out = io::writer(rt);
     let outcome = serve(rt.alloc(), setup, &mut bench, &mut out, &mut record);
+    let heard = bench.known();
     match first.try_recv(rt) {
-        Ok(first) => finish(rt, notes, &outcome, first.as_slice()),
-        Err(_) => finish(rt, notes, &outcome, bench.first()),
+        Ok(first) => {
+            let known = Known {
+                first: first.as_slice(),
+                ..heard
+            };
+            finish(rt, notes, &outcome, known)
+        }
+        Err(_) => finish(rt, notes, &outcome, heard),
     }
 }
 

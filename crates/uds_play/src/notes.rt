@@ -2,12 +2,13 @@
 //! nor the status, and where there is no memory or no file for one, it is left out.
 
 use crate::answer::{Answer, answer_at};
+use crate::last::{Known, Last};
 use crate::source::MOST_KEPT;
 use diag_check::{Remark, check, look_at};
 use diag_config::read_setup;
 use diag_notes::{
-    FoundLine, Place, Recording, ShownLine, Side, TOO_LONG, expected, file_kind, instead_of_setup,
-    is_recording, line_at, looks,
+    FoundLine, Instead, Place, Recording, ShownLine, Side, TOO_LONG, expected, file_kind,
+    instead_of_setup, is_recording, line_at, looks,
 };
 use diag_run::Outcome;
 use diag_setup::{RawSetup, RawTester};
@@ -64,19 +65,33 @@ pub fn note(rt: &impl Eprint, text: &str) {
     let _ = eprintln!(rt; "uds_play: note: {text}");
 }
 
-/// Prints each line of clap's text as a note, and what it doesn't say: that `live` takes no file behind the setup.
-pub fn note_usage(rt: &impl Eprint, text: &str, is_live: bool) {
+/// Prints each line of clap's text as a note, and what it doesn't say.
+pub fn note_usage(rt: &impl Eprint, text: &str, command: &str) {
     for line in text.split('\n') {
         let line = line.trim();
         if !line.is_empty() {
             note(rt, line);
         }
     }
-    if is_live && has_file_more(text) {
-        note(
-            rt,
-            "live hears standard input: uds_play live CONFIG < CAPTURE",
+    if let Some(hint) = usage_hint(text, command) {
+        note(rt, hint);
+    }
+}
+
+/// What helps with words that clap refuses, where its text doesn't say it.
+fn usage_hint(text: &str, command: &str) -> Option<&'static str> {
+    if text.contains("unrecognized subcommand '") {
+        return Some(
+            "the command stands first: check, bus, verify, compare, live, serial, play or replay",
         );
+    }
+    if !has_file_more(text) {
+        return None;
+    }
+    match command {
+        "live" => Some("live hears standard input: uds_play live CONFIG < CAPTURE"),
+        "check" => Some("check takes one setup; a path with a space stands in quotes"),
+        _ => Some("it takes one setup and one recording; a path with a space stands in quotes"),
     }
 }
 
@@ -120,23 +135,28 @@ impl Notes<'_> {
         Ok(())
     }
 
-    /// Behind a run: what can be told of its fault, or of what it didn't see. `first` are the first bytes of standard
+    /// Behind a run: what can be told of its fault, or of what it didn't see. `known` is what is known of standard
     /// input.
-    pub fn behind<R: Eprint + Files + AllocGlobal>(&self, rt: &R, outcome: &Outcome, first: &[u8]) {
+    pub fn behind<R: Eprint + Files + AllocGlobal>(
+        &self,
+        rt: &R,
+        outcome: &Outcome,
+        known: Known<'_>,
+    ) {
         if self.quiet {
             return;
         }
         // Where there is no memory, no note tells of it.
         let _ = match outcome {
-            Outcome::Done { .. } => self.unseen(rt, false, first),
+            Outcome::Done { .. } => self.unseen(rt, false, known.first),
             Outcome::Fault {
                 told: Some(told),
                 status,
             } => {
                 let told = str::from_utf8(told.as_slice()).unwrap_or("");
                 match Place::of(told) {
-                    Place::Nowhere if *status == 8 => self.unseen(rt, true, first),
-                    place => self.at_place(rt, place, first),
+                    Place::Nowhere if *status == 8 => self.unseen(rt, true, known.first),
+                    place => self.at_place(rt, place, known),
                 }
             }
             Outcome::Fault { told: None, .. } => Ok(()),
@@ -147,14 +167,14 @@ impl Notes<'_> {
         &self,
         rt: &R,
         place: Place,
-        first: &[u8],
+        known: Known<'_>,
     ) -> Result<(), AllocError> {
         match place {
             Place::Setup => self.faults(rt),
             Place::File(number) => self.unreadable(rt, number),
-            Place::Line(file, number) => self.bad_line(rt, file, number, first),
-            Place::JournalLine(number) => self.bad_journal_line(rt, number, first),
-            Place::Entry(number) => match self.line(rt, 1, number.saturating_add(1), first)? {
+            Place::Line(file, number) => self.bad_line(rt, file, number, known),
+            Place::JournalLine(number) => self.bad_journal_line(rt, number),
+            Place::Entry(number) => match self.line(rt, 1, number.saturating_add(1), known)? {
                 Some(line) => self.other_entry(rt, number, line.bytes.as_slice()),
                 None => Ok(()),
             },
@@ -188,10 +208,9 @@ impl Notes<'_> {
         let Some(text) = self.setup_text(rt) else {
             return Ok(());
         };
-        if let Some(kind) = instead_of_setup(text.as_slice()) {
-            let line = format!(in rt.alloc();
-                "{config} is a {kind}: the setup comes first, then the {kind}"
-            )?;
+        if let Some(instead) = instead_of_setup(text.as_slice()) {
+            let told = self.order(instead);
+            let line = format!(in rt.alloc(); "{config} is a {told}")?;
             note(rt, line.as_str());
             return Ok(());
         }
@@ -211,6 +230,23 @@ impl Notes<'_> {
             note(rt, line.as_str());
         }
         Ok(())
+    }
+
+    /// What stands in place of the setup, and what helps.
+    fn order(&self, instead: Instead) -> &'static str {
+        match (instead, self.kind) {
+            (Instead::Journal, FileKind::Journal) => {
+                "journal: the setup comes first, then the journal"
+            }
+            (Instead::Journal, _) => "journal: uds_play replay CONFIG JOURNAL takes one",
+            (Instead::Recording, FileKind::Journal) => {
+                "recording: uds_play bus CONFIG CAPTURE takes one, and replay a journal"
+            }
+            (Instead::Recording, FileKind::Record) => {
+                "recording: live takes the setup, and hears standard input: uds_play live CONFIG < CAPTURE"
+            }
+            (Instead::Recording, _) => "recording: the setup comes first, then the recording",
+        }
     }
 
     /// Whether what is read is standard input.
@@ -249,10 +285,13 @@ impl Notes<'_> {
         rt: &R,
         file: usize,
         number: u64,
-        first: &[u8],
+        known: Known<'_>,
     ) -> Result<Option<FoundLine>, AllocError> {
         if self.is_standard() {
-            return kept_line(rt.alloc(), first, number);
+            return match known.last {
+                Some(last) => last_line(rt.alloc(), last, number),
+                None => kept_line(rt.alloc(), known.first, number),
+            };
         }
         let path = self.path(file);
         if !is_regular(rt, path) {
@@ -280,13 +319,13 @@ impl Notes<'_> {
         rt: &R,
         file: usize,
         number: u64,
-        first: &[u8],
+        known: Known<'_>,
     ) -> Result<(), AllocError> {
-        let start = self.start(rt, file, first);
+        let start = self.start(rt, file, known.first);
         if self.other_kind(rt, file, start.as_slice())? {
             return Ok(());
         }
-        if let Some(line) = self.line(rt, file, number, first)? {
+        if let Some(line) = self.line(rt, file, number, known)? {
             self.shown(rt, file, number, line.bytes.as_slice())?;
             let text = if line.is_too_long() && self.kind != FileKind::Logs {
                 TOO_LONG
@@ -303,14 +342,31 @@ impl Notes<'_> {
         &self,
         rt: &R,
         number: u64,
-        first: &[u8],
     ) -> Result<(), AllocError> {
-        if self.other_kind(rt, 1, self.start(rt, 1, first).as_slice())? {
+        let start = self.start(rt, 1, &[]);
+        if self.other_kind(rt, 1, start.as_slice())? {
             return Ok(());
         }
-        if let Some(line) = self.line(rt, 1, number, first)? {
-            self.shown(rt, 1, number, line.bytes.as_slice())?;
-            note(rt, expected(number, &line));
+        match self.line(rt, 1, number, Known::NOTHING)? {
+            Some(line) => {
+                self.shown(rt, 1, number, line.bytes.as_slice())?;
+                note(rt, expected(number, &line));
+            }
+            None => self.empty(rt, self.path(1), start.as_slice())?,
+        }
+        Ok(())
+    }
+
+    /// Tells that a file is empty, where it is.
+    fn empty<R: Eprint + AllocGlobal>(
+        &self,
+        rt: &R,
+        path: &str,
+        text: &[u8],
+    ) -> Result<(), AllocError> {
+        if text.is_empty() {
+            let line = format!(in rt.alloc(); "{path} is empty")?;
+            note(rt, line.as_str());
         }
         Ok(())
     }
@@ -401,7 +457,7 @@ impl Notes<'_> {
             return Ok(());
         };
         let is_one_silent = if self.is_standard() && first.len() < MOST_KEPT {
-            note_unseen(rt, setup.raw(), &self.looked(0, is_judged), first)?
+            self.unseen_in(rt, setup.raw(), 0, is_judged, first)?
         } else {
             self.unseen_in_files(rt, setup.raw(), is_judged)?
         };
@@ -422,12 +478,27 @@ impl Notes<'_> {
         let mut is_one_silent = false;
         for (index, path) in self.files.iter().enumerate() {
             if let Some(text) = read_regular(rt, path, MOST_LOOK) {
-                let looked = self.looked(index, is_judged);
-                let is_silent = note_unseen(rt, setup, &looked, text.as_slice())?;
+                let is_silent = self.unseen_in(rt, setup, index, is_judged, text.as_slice())?;
                 is_one_silent = is_one_silent || is_silent;
             }
         }
         Ok(is_one_silent)
+    }
+
+    /// What a run didn't see in the text of the file of this index; whether a tester asks nothing in it.
+    fn unseen_in<R: Eprint + AllocGlobal>(
+        &self,
+        rt: &R,
+        setup: &RawSetup,
+        index: usize,
+        is_judged: bool,
+        text: &[u8],
+    ) -> Result<bool, AllocError> {
+        if text.is_empty() {
+            self.empty(rt, self.path(index.saturating_add(1)), text)?;
+            return Ok(false);
+        }
+        note_unseen(rt, setup, &self.looked(index, is_judged), text)
     }
 
     /// What is looked for in the file of this index.
@@ -450,6 +521,15 @@ fn kept_line(alloc: Global, first: &[u8], number: u64) -> Result<Option<FoundLin
         is_ended: line.is_ended || is_cut,
         ..line
     }))
+}
+
+/// The line of this number where it is among the last ones of standard input.
+fn last_line(alloc: Global, last: Last<'_>, number: u64) -> Result<Option<FoundLine>, AllocError> {
+    let mut bytes = last.bytes;
+    match number.checked_sub(last.before) {
+        Some(number) if number > 0 => line_at(alloc, &mut bytes, number),
+        _ => Ok(None),
+    }
 }
 
 /// What is looked for in a recording.

@@ -1,6 +1,7 @@
 //! A bus as it goes: standard input, which a thread of its own reads, the machine's clock, and the record.
 
 use crate::flow_lines::FlowLines;
+use crate::last::{Known, LastLines};
 use crate::pace::Pace;
 use crate::source::{Source, keep};
 use crossbeam_channel::{Receiver, RecvTimeoutError, Sender};
@@ -41,6 +42,8 @@ pub struct StandardBench<'a, R> {
     end: Option<Heard>,
     /// The first bytes that were heard.
     first: Vec<u8>,
+    /// What was served last.
+    last: LastLines,
 }
 
 /// Lines that are held until a moment, in milliseconds: flow control, and what came behind it.
@@ -74,14 +77,18 @@ impl<'a, R: Clock> StandardBench<'a, R> {
             held: None,
             end: None,
             first: Vec::new(alloc),
+            last: LastLines::new(alloc),
         })
     }
 }
 
 impl<'a, R: Clock> StandardBench<'a, R> {
-    /// The first bytes that were heard.
-    pub fn first(&self) -> &[u8] {
-        self.first.as_slice()
+    /// The first bytes that were heard, and the last that were served.
+    pub fn known(&self) -> Known<'_> {
+        Known {
+            first: self.first.as_slice(),
+            last: self.last.last(),
+        }
     }
 
     /// The time since the start; what it told last where the clock can't be read.
@@ -184,11 +191,15 @@ impl<'a, R: Clock + Wait> Bench for StandardBench<'a, R> {
     fn hear(&mut self, until: u64, in_block: bool) -> Heard {
         let elapsed = self.elapsed();
         self.pace.begin(elapsed, until, in_block);
-        match self.held.take() {
+        let heard = match self.held.take() {
             Some(lines) if lines.until <= self.pace.moment(elapsed) => self.let_go(lines),
             Some(lines) => self.hear_behind(lines, until),
             None => self.hear_next(until),
+        };
+        if let Heard::Piece(piece) = &heard {
+            self.last.take(piece.as_slice());
         }
+        heard
     }
 
     fn now(&mut self) -> u64 {
