@@ -93,9 +93,10 @@ fn other_format<'a>(text: &str, line: &str) -> Option<Hint<'a>> {
 
 /// What helps with a line that is no TOML from behind its head on, below this text.
 fn in_line<'a>(above: &str, head: &str, line: &'a str, message: &str) -> Hint<'a> {
+    let (said, _) = line.split_once('#').unwrap_or((line, ""));
     if line.trim_start().starts_with("//") || line.trim_start().starts_with(';') {
         Hint::Comment
-    } else if line.contains(CURLY) {
+    } else if said.contains(CURLY) {
         Hint::Quotes
     } else if message.starts_with("duplicate key") {
         Hint::Twice(open_table(above).map_or("", |table| table.path()))

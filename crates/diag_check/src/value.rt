@@ -54,7 +54,8 @@ pub fn pattern_parts(value: &Value) -> Option<(&[u8], bool)> {
 
 /// Whether a text is a pattern but for single spaces between its items.
 pub fn is_spaced_pattern(text: &str) -> bool {
-    let items = text.strip_suffix('*').unwrap_or(text).trim_end();
+    let items = text.strip_suffix('*').unwrap_or(text);
+    let items = items.strip_suffix(' ').unwrap_or(items);
     items.split(' ').all(|part| {
         !part.is_empty() && part.as_bytes().chunks(2).all(is_pattern_item)
     })
