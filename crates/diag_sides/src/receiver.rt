@@ -443,7 +443,8 @@ impl Receiver {
         requires long { single_most rx_dl < len }
         requires head { length head.now ≡ head_size rx_dl len }
         requires room { len ≤ self.old.room }
-        ensures { self.new.partial ≡ Some (begun_receiving len rx_dl head.now) }
+        ensures partial { self.new.partial ≡ Some (begun_receiving len rx_dl head.now) }
+        ensures memory { IfSome self.old.partial (λ p. 8 < p.len → p.len ≤ self.new.room) }
     {
         add_head(&mut self.spare, head);
         let bytes = mem::replace(&mut self.spare, Vec::new(self.alloc));
@@ -467,6 +468,8 @@ impl Receiver {
         ensures grant { (if result then Some (go_on setup.now) else None)
             ≡ granted_by setup.now self.old.partial (Consecutive sequence_number part.now) }
         ensures room { self.old.room ≤ self.new.room }
+        ensures memory { self.new.partial ≡ None
+            → IfSome self.old.partial (λ p. 8 < p.len → p.len ≤ self.new.room) }
     {
         let Some(partial) = &mut self.partial else {
             return false;
@@ -485,6 +488,8 @@ impl Receiver {
         ensures partial { self.new.partial
             ≡ option_and_then (ticks_later n_cr count) self.old.partial }
         ensures room { self.old.room ≤ self.new.room }
+        ensures memory { self.new.partial ≡ None
+            → IfSome self.old.partial (λ p. 8 < p.len → p.len ≤ self.new.room) }
     {
         if let Some(partial) = &mut self.partial {
             if u32::from(partial.silence) + u32::from(count) < u32::from(n_cr) {

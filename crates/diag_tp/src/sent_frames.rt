@@ -122,7 +122,9 @@ impl SentFrames {
     /// Takes all frames out; the room for them stays.
     #[inline(always)]
     pub fn clear(&mut self)
-        ensures { self.new.items ≡ [] }
+        ensures items { self.new.items ≡ [] }
+        ensures room { self.old.room ≤ self.new.room }
+        ensures long_room { self.old.long_room ≤ self.new.long_room }
     {
         match &mut self.list {
             FrameList::Short(list) => list.clear(),
