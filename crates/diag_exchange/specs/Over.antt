@@ -1,5 +1,5 @@
 -- What is over.
-use Rattle.std.specs.Prelude.{ℕ, Option, option_copied}
+use Rattle.std.specs.Prelude.{ℕ, Option}
 use Rattle.diag_exchange.specs.declared.happening.AskedRequest.{AskedRequest}
 use Rattle.diag_exchange.specs.declared.happening.Heard.{Heard}
 

@@ -1,5 +1,5 @@
 -- A line to a tester: its parts one behind the other.
-use Rattle.std.proofs.Common.{◌≡◌, ℕ, ◌+◌, ◌-◌, Some, Vec, Global, vec_len, Bool, true, false, zero, suc, Option, None, List, [], ◌∷◌, ◌++◌, length, map, take, drop, refl, ap, ap₂, subst, sym, ◌∙◌, append_assoc, arith}
+use Rattle.std.proofs.Common.{◌≡◌, ℕ, ◌+◌, Some, Vec, Global, vec_len, Bool, true, false, zero, suc, Option, None, List, [], ◌∷◌, ◌++◌, length, map, take, drop, refl, ap, ap₂, subst, sym, ◌∙◌, append_assoc, arith}
 use Rattle.std.proofs.lemmas.Bool.Decides.{nat_tests}
 use Rattle.std.proofs.lemmas.List.{append-nil, length-append, map-append, nil_from_length, reverse-append}
 use Rattle.std.proofs.lemmas.List.Elements.{filter-append}

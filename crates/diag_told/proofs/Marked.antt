@@ -1,5 +1,5 @@
 -- The bytes of a message beside their marks.
-use Rattle.std.proofs.Common.{◌≡◌, ℕ, zero, suc, ◌*◌, Option, None, Some, List, [], ◌∷◌, ◌++◌, drop, length, length-append, true, false, refl, ap, sym, ◌∙◌, append_assoc, arith}
+use Rattle.std.proofs.Common.{◌≡◌, ℕ, zero, suc, ◌*◌, Option, None, Some, List, [], ◌∷◌, drop, length, length-append, true, false, refl, ap, sym, ◌∙◌, arith}
 use Rattle.std.specs.Prelude.{min, ◌==◌, if◌then◌else◌, codes}
 use Rattle.hex.proofs.HexLemmas.{length-encode_with}
 use Rattle.hex.specs.Hex.{encode_upper, encode_with, upper_digits}

@@ -16,6 +16,6 @@ returns-in-At-clause-empty c = λ i frames at.
     let filled = subst (λ (f : Filled). AreFilled f (map items drawn)) c.in-At.is c.requires.filled in
     let t = map_cases items (slice_set drawn index c.clear.new.self) i frames at in
     elim (set_cases drawn index i c.clear.new.self t.0 t.1) [
-      | inl p ↦ t.2 ∙ (ap items p.1 ∙ c.clear.ensures)
+      | inl p ↦ t.2 ∙ (ap items p.1 ∙ c.clear.ensures.items)
       | inr p ↦ t.2 ∙ filled.1 i t.0.items p.0 (slice_get-map items drawn i ∙ ap (option_map items) p.1)
     ]

@@ -1,4 +1,4 @@
-use Rattle.std.proofs.Common.{◌≡◌, Some, List, ℕ, ap, sym, ◌∙◌}
+use Rattle.std.proofs.Common.{Some, List, ℕ, ap, sym, ◌∙◌}
 use Rattle.std.specs.Prelude.{option_map}
 use Rattle.diag_comparing.specs.Keeping.{sent_to}
 use Rattle.diag_comparing.proofs.exchange_lines.sent_to.Goals as goal

@@ -1,4 +1,4 @@
-use Rattle.std.proofs.Common.{◌≡◌, ℕ, ◌/◌, ◌%◌, List, ◌++◌, append_assoc, decimal, ap, sym, ◌∙◌, arith}
+use Rattle.std.proofs.Common.{ℕ, ◌/◌, ◌%◌, List, ◌++◌, append_assoc, decimal, ap, sym, ◌∙◌, arith}
 use Rattle.diag_can.specs.Reply.{two_digits}
 use Rattle.diag_told.proofs.Numbers.{pair_behind}
 use Rattle.diag_told.proofs.number.add_to_four.Goals as goal
