@@ -42,7 +42,9 @@ fn second_text(number: u64) -> [u8; 11]
 
 impl Second {
     /// That of the time 0.
-    pub fn new() -> Second {
+    pub fn new() -> Second
+        ensures { result ≡ 0 }
+    {
         Second {
             began: 0,
             text: second_text(0),
