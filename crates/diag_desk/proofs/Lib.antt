@@ -1,5 +1,4 @@
 pub mod EntryLemmas
-pub mod DecimalText
 pub mod CountText
 pub mod CutText
 pub mod HexText

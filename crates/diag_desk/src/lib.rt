@@ -10,7 +10,6 @@ mod journal;
 mod laws;
 mod line;
 mod next;
-mod numerals;
 mod read;
 mod replaying;
 mod sixteen;

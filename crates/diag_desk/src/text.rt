@@ -7,9 +7,8 @@ ghost use Rattle.diag_desk.specs.Text.{ended, entry_line, header, journal_text, 
 use crate::clocks::Clocks;
 use crate::entry::{EntryRef, StepRef};
 use crate::journal::Journal;
-use crate::numerals::add_decimal;
 use crate::version::JournalVersion;
-use diag_can::{add_bytes, add_hex};
+use diag_can::{add_bytes, add_decimal, add_hex};
 use diag_setup::TesterId;
 use std::alloc::{AllocError, Global};
 use std::mem;

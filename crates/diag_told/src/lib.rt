@@ -1,7 +1,6 @@
 //! How an exchange is told: a line of text.
 #![tactic(auto)]
 
-mod number;
 mod second;
 mod telling;
 

@@ -6,9 +6,8 @@ ghost use Rattle.diag_can.specs.Reply.{zero_filled};
 ghost use Rattle.diag_exchange.specs.Agreeing.{marks, waited};
 ghost use Rattle.diag_told.specs.Told.{byte_text, bytes_text, capture_line_told, expected_text, kind_text, message_text, pendings_told, reply_text, request_text, sent_text, stamp_text, time_text, told_text};
 
-use crate::number::add_number;
 use crate::second::Second;
-use diag_can::{add_bytes, add_hex, decimal_pair, hex_digits};
+use diag_can::{add_bytes, add_decimal, add_hex, decimal_pair, hex_digits};
 use diag_exchange::{CaptureLine, Expected, Over, OverKind};
 use diag_pdu::Message;
 use std::alloc::AllocError;
@@ -93,7 +92,7 @@ fn add_head(text: &mut Vec<u8>, second: &mut Second, name: &[u8], moment: u64, l
     ensures len { vec_len text.new ≤ vec_len text.old + (length name.now + 78) }
     ensures capacity { vec_capacity text.new ≡ vec_capacity text.old }
 {
-    add_number(text, line);
+    add_decimal(text, line);
     text.push_reserved(b' ');
     add_stamp(text, second, moment);
     text.push_reserved(b' ');
@@ -116,7 +115,7 @@ fn add_numbers(text: &mut Vec<u8>, over: &Over)
     line.push_reserved(b' ');
     add_time(&mut line, over.waited());
     line.push_reserved(b' ');
-    add_number(&mut line, pendings(over));
+    add_decimal(&mut line, pendings(over));
     line.push_reserved(b'\n');
     *text = line;
 }
@@ -130,7 +129,7 @@ fn add_time(text: &mut Vec<u8>, waited: Option<u64>)
     ensures capacity { vec_capacity text.new ≡ vec_capacity text.old }
 {
     match waited {
-        Some(ms) => add_number(text, ms),
+        Some(ms) => add_decimal(text, ms),
         None => text.push_reserved(b'-'),
     }
 }
@@ -307,7 +306,7 @@ fn add_stamp(text: &mut Vec<u8>, second: &mut Second, at: u64)
         second.go_to(at);
         second.add_to(text);
     } else {
-        add_number(text, at / 1000);
+        add_decimal(text, at / 1000);
         text.push_reserved(b'.');
     }
     add_three(text, at % 1000);

@@ -16,7 +16,7 @@ returns-clause-items c =
       | else-at-lt-LATE w ↦
           let long = zero_filled-long (at / 1000) (omega (arith, w.if-at-lt-LATE.false)) (omega (arith, c.ranges.at.fits)) in
           ap (λ t. t.items) w.text-is ∙ (w.push_reserved.ensures.items
-          ∙ (ap (λ (t : List ℕ). t ++ codes ".") (w.add_number.ensures.items ∙ ap (λ (d : List ℕ). old ++ d) (sym long))
+          ∙ (ap (λ (t : List ℕ). t ++ codes ".") (w.add_decimal.ensures.items ∙ ap (λ (d : List ℕ). old ++ d) (sym long))
           ∙ append_assoc old (zero_filled 10 (decimal (at / 1000))) (codes ".")))
     ] in
     c.add.ensures.items ∙ (ap (λ (t : List ℕ). t ++ codes "000") (c.add_three.ensures.items ∙ ap (λ (t : List ℕ). t ++ ms) front) ∙ simp append_assoc)

@@ -1,13 +1,16 @@
 //! Numbers in decimal, appended to a text where there is room for them.
+
 ghost use Rattle.std.specs.Prelude.{◌≡◌, ◌<◌, ◌≤◌, ◌+◌, ◌/◌, ◌%◌, ◌++◌, decimal, vec_len, vec_capacity};
 ghost use Rattle.diag_can.specs.Reply.{two_digits};
 
-use diag_can::{add_bytes, decimal_pair};
+use crate::hex_text::add;
+use crate::table::decimals;
+use itoa::Buffer;
 
-/// Appends a number: its digits come in groups of four, which are made two by two.
+/// Appends a number in decimal, where there is room: its digits come in groups of four, which are made two by two.
 #[tactic(auto, using(crate::proofs::DecimalText::four_joined))]
 #[inline(always)]
-pub(crate) fn add_decimal(text: &mut Vec<u8>, number: u64)
+pub fn add_decimal(text: &mut Vec<u8>, number: u64)
     requires { vec_len text.old + 20 ≤ vec_capacity text.old }
     ensures items { text.new.items ≡ text.old.items ++ decimal number }
     ensures len { vec_len text.new ≤ vec_len text.old + 20 }
@@ -39,8 +42,8 @@ fn add_great(text: &mut Vec<u8>, number: u64)
         add_four(text, front % 10_000);
         add_four(text, number % 10_000);
     } else {
-        let mut buffer = itoa::Buffer::new();
-        add_bytes(text, buffer.format(number).as_bytes());
+        let mut buffer = Buffer::new();
+        add(text, buffer.format(number).as_bytes());
     }
 }
 
@@ -58,7 +61,7 @@ fn add_first(text: &mut Vec<u8>, number: u64)
         add_few(text, number);
     } else {
         add_few(text, number / 100);
-        add_bytes(text, &decimal_pair(number % 100));
+        add(text, &decimals(number % 100));
     }
 }
 
@@ -75,7 +78,7 @@ fn add_few(text: &mut Vec<u8>, number: u64)
     if number < 10 {
         text.push_reserved(b'0' + number as u8);
     } else {
-        add_bytes(text, &decimal_pair(number));
+        add(text, &decimals(number));
     }
 }
 
@@ -89,6 +92,6 @@ fn add_four(text: &mut Vec<u8>, number: u64)
     ensures len { vec_len text.new ≡ vec_len text.old + 4 }
     ensures capacity { vec_capacity text.new ≡ vec_capacity text.old }
 {
-    add_bytes(text, &decimal_pair(number / 100));
-    add_bytes(text, &decimal_pair(number % 100));
+    add(text, &decimals(number / 100));
+    add(text, &decimals(number % 100));
 }
