@@ -14,7 +14,7 @@ loop-index-preserved c =
     record {
       lists = length-set drawn c.loop-index.index c.clear.new.self ∙ c.loop-index.invariant.lists;
       empty = λ k v less at. elim (set_cases drawn c.loop-index.index k c.clear.new.self v at) [
-        | inl p ↦ subst (λ (x : SentList). x.items ≡ []) (sym p.1) c.clear.ensures
+        | inl p ↦ subst (λ (x : SentList). x.items ≡ []) (sym p.1) c.clear.ensures.items
         | inr p ↦ (let below : k < c.loop-index.index = omega (arith, less, p.0) in c.loop-index.invariant.empty k v below p.1)
       ];
     }
