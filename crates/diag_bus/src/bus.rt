@@ -8,6 +8,7 @@ ghost use Rattle.diag_world.specs.Block.{some_in_block};
 ghost use Rattle.diag_world.specs.Server.{quiet_of};
 ghost use Rattle.diag_bus.specs.Bus.{AnswersLine, IsItsFault, IsRefused, TookLine, TookLines};
 ghost use Rattle.diag_bus.specs.Text.{ecu_after};
+ghost use Rattle.diag_can.specs.Usual.{IsWide};
 
 use crate::clock::Clock;
 use crate::fault::BusFault;
@@ -16,7 +17,7 @@ use crate::line_frames::LineFrames;
 use crate::node::Node;
 use crate::request_ids::RequestIds;
 use crate::sink::Sink;
-use diag_can::{BusLine, KnownId, read_bus_line};
+use diag_can::{BusLine, KnownId, read_bus_line, wide_said};
 use diag_ecu::Ecu;
 use diag_setup::Setup;
 use diag_tp::SentFrames;
@@ -122,6 +123,24 @@ impl<S: Sink> Bus<S> {
             Ok(said) => self.take(&said, text),
             Err(fault) => Err(BusFault::Line(fault)),
         }
+    }
+
+    /// Takes a line of the usual form, given without its LF, whose frame's text begins at this place with eight digits of its
+    /// identifier.
+    ///
+    /// # Errors
+    /// As `take_line`.
+    pub fn take_wide(
+        &mut self,
+        line: &[u8],
+        place: usize,
+        text: &mut Vec<u8>,
+    ) -> Result<(), BusFault>
+        requires { IsWide line.now place }
+        ensures { AnswersLine S.took S.aim S.written self.old self.new line.now text.old.items text.new.items result }
+    {
+        let said = wide_said(self.ids.known(), line, place);
+        self.take(&said, text)
     }
 
     /// Takes a line that says this.

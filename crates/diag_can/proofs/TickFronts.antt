@@ -6,7 +6,8 @@ use Rattle.std.proofs.lemmas.Bool.{cases_Bool, eqb-true}
 use Rattle.std.proofs.lemmas.Bool.Decides.{nat_tests}
 use Rattle.std.proofs.lemmas.List.Elements.{All-append, All-cons, All-nil}
 use Rattle.std.proofs.lemmas.List.Sums.{AllPass-from_list_all, list_all-from_AllPass, prefix_len-le-length}
-use Rattle.diag_can.specs.BusLine.{HasNoFeed, IsFirstLine}
+use Rattle.diag_can.specs.BusLine.{HasNoFeed}
+use Rattle.diag_can.specs.Front.{IsFirstLine}
 use Rattle.diag_can.specs.Line.{is_decimal, line_says, tick_count, ticks_of}
 use Rattle.diag_can.specs.Log.{is_feed, without_return}
 use Rattle.diag_can.specs.Stamp.{behind, decimal_value, is_digit}
@@ -113,16 +114,17 @@ module _ (rest after : List ℕ) (len count : ℕ) (well : tick_count (take len 
   line_is known = rw well refl
 
   is_front : (whole : List ℕ) → text ≡ whole ++ 10 ∷ after → HasNoFeed whole → length whole ≤ 4096 → without_return whole ≡ line
-      → IsFirstLine text (take (length text - length after - 1) text) after (Some (Ticks count))
+      → IsFirstLine text (take (length text - length after - 1) text) after (Some (Ticks count)) None
   is_front whole is none short same =
-      subst (λ (w : List ℕ). IsFirstLine text w after (Some (Ticks count))) (sym (front_is text whole after is)) (record {
+      subst (λ (w : List ℕ). IsFirstLine text w after (Some (Ticks count)) None) (sym (front_is text whole after is)) (record {
         is = is;
         plain = none;
         says = λ known. bus_line-short known whole line (Ticks count) short (sym same) (line_is known);
+        wide = tt;
       })
 
   pub ticks_line : (drop len rest ≡ 10 ∷ after) ⊎ (drop len rest ≡ 13 ∷ 10 ∷ after)
-      → IsFirstLine text (take (length text - length after - 1) text) after (Some (Ticks count))
+      → IsFirstLine text (take (length text - length after - 1) text) after (Some (Ticks count)) None
   ticks_line (inl feed) =
       is_front line (ap (λ (t : List ℕ). 116 ∷ 105 ∷ 99 ∷ 107 ∷ t) (sym (take-append-drop len rest) ∙ ap (λ (t : List ℕ). take len rest ++ t) feed))
       line_plain (omega (arith, size)) (without_cr line (omega (arith, size)) plain)

@@ -1,5 +1,5 @@
 -- The lines of a capture of a whole bus, whole or piece by piece.
-use Rattle.std.specs.Prelude.{◌≡◌, ℕ, nat_lt, ◌==◌, if◌then◌else◌, false, All, IfSome, List, [], ◌∷◌, ◌++◌, length, Option, Result, Ok, Err}
+use Rattle.std.specs.Prelude.{◌≡◌, ℕ, nat_lt, ◌==◌, if◌then◌else◌, false, All, List, [], ◌∷◌, length, Result, Err}
 use Rattle.std.specs.List.{slice_split}
 use Rattle.diag_can.specs.Line.{line_says}
 use Rattle.diag_can.specs.Log.{is_feed, without_return}
@@ -29,13 +29,6 @@ bus_lines text = whole_pieces (slice_split is_feed text)
 -- no byte is a line feed
 abbrev pub HasNoFeed : List ℕ → Type 0
 HasNoFeed line = All (λ c. is_feed c ≡ false) line
-
--- the first line of a text without its line feed, what follows that, and what the line says where that is known: that doesn't
--- depend on which identifiers are read
-pub record IsFirstLine (text line after : List ℕ) (said : Option BusLine) : Type 0 where
-  pub is : text ≡ line ++ 10 ∷ after
-  pub plain : HasNoFeed line
-  pub says : IfSome said (λ said. (known : List KnownId) → bus_line known line ≡ Ok said)
 
 abbrev pub front_pieces : List (List ℕ) → List (List ℕ)
 front_pieces [] = []

@@ -1,10 +1,12 @@
 //! The first line of a text: most lines are of the usual form or well `tick` lines, whose end is looked for behind what is read.
 
-ghost use Rattle.std.specs.Prelude.{◌≡◌, ◌-◌, ◌<◌, ◌≤◌, ◌∷◌, ◌⊎◌, length, take, IfSome, MatchOption, Some};
+ghost use Rattle.std.specs.Prelude.{◌≡◌, ◌-◌, ◌<◌, ◌≤◌, ◌∷◌, ◌⊎◌, ◌+◌, length, take, IfSome, MatchOption, Some, None};
 ghost use Rattle.memchr.specs.Find.{IsFirstByte};
-ghost use Rattle.diag_can.specs.BusLine.{HasNoFeed, IsFirstLine};
+ghost use Rattle.diag_can.specs.BusLine.{HasNoFeed};
+ghost use Rattle.diag_can.specs.Front.{IsFirstLine};
 ghost use Rattle.diag_can.specs.Line.{tick_count};
 ghost use Rattle.diag_can.specs.Log.{is_feed};
+ghost use Rattle.diag_can.specs.Usual.{BeginsFramed, HasDigits};
 
 use crate::bus_line::BusLine;
 use crate::frame::TickCount;
@@ -16,7 +18,7 @@ use crate::usual::{SHORTEST, said_from, text_place};
 use memchr::memchr;
 
 /// The longest line of the usual form with its end.
-const LONGEST: usize = 48;
+const LONGEST: usize = 53;
 
 /// The first line of a text, which an LF ends.
 #[derive(Drop)]
@@ -27,6 +29,9 @@ pub struct FirstLine<'a> {
     pub after: &'a [u8],
     /// What the line says, where one look at it told.
     pub said: Option<BusLine<'a>>,
+    /// Where the text of its frame begins, where one look at it told that the identifier has eight digits and the line is of the
+    /// usual form. `wide_said` has what it says.
+    pub wide: Option<usize>,
 }
 
 /// What follows an LF, or a CR and an LF, at the front of a text.
@@ -50,24 +55,25 @@ fn told<'a>(text: &'a [u8], after: &'a [u8], said: BusLine<'a>) -> FirstLine<'a>
     ensures line { result.line.now ≡ take (length text.now - length after.now - 1) text.now }
     ensures after { result.after.now ≡ after.now }
     ensures said { result.said ≡ Some said.entry }
+    ensures wide { result.wide ≡ None }
 {
     FirstLine {
         line: &text[..text.len() - after.len() - 1],
         after,
         said: Some(said),
+        wide: None,
     }
 }
 
-/// The first line of a text where it is of the usual form: its end is looked for behind the digits.
+/// The line at the front of a text, without its end, and what follows that, where behind so many digits of its identifier and a
+/// mark there is nothing but pairs of hex digits: its end is looked for behind these.
 #[inline(always)]
-fn usual_front(text: &[u8]) -> Option<FirstLine<'_>>
-    ensures { IfSome result (λ first. IsFirstLine text.now first.line.now first.after.now first.said) }
+fn framed_front(text: &[u8], place: usize, width: usize) -> Option<(&[u8], &[u8])>
+    requires begins { BeginsFramed text.now place }
+    requires room { place + width + 17 < length text.now }
+    ensures { IfSome result (λ r. HasDigits text.now r.0.now r.1.now (place + width + 1)) }
 {
-    if text.len() < LONGEST {
-        return None;
-    }
-    let place = text_place(text)?;
-    let at = place + 4;
+    let at = place + width + 1;
     let count = hex_of_sixteen(text, at);
     let end = at + count;
     if end < SHORTEST || count % 2 != 0 {
@@ -75,6 +81,41 @@ fn usual_front(text: &[u8]) -> Option<FirstLine<'_>>
     }
     let (line, rest) = text.split_at(end);
     let after = behind_end(rest)?;
+    Some((line, after))
+}
+
+/// The first line of a text where it is of the usual form with an identifier of eight digits, at this place.
+#[inline(always)]
+fn wide_front(text: &[u8], place: usize) -> Option<FirstLine<'_>>
+    requires begins { BeginsFramed text.now place }
+    requires long { 53 ≤ length text.now }
+    ensures { IfSome result (λ first. IsFirstLine text.now first.line.now first.after.now first.said first.wide) }
+{
+    if text[place + 8] != b'#' || hex_of_sixteen(text, place) != 8 {
+        return None;
+    }
+    let (_, after) = framed_front(text, place, 8)?;
+    Some(FirstLine {
+        line: &text[..text.len() - after.len() - 1],
+        after,
+        said: None,
+        wide: Some(place),
+    })
+}
+
+/// The first line of a text where it is of the usual form. Most identifiers have three digits.
+#[inline(always)]
+fn usual_front(text: &[u8]) -> Option<FirstLine<'_>>
+    ensures { IfSome result (λ first. IsFirstLine text.now first.line.now first.after.now first.said first.wide) }
+{
+    if text.len() < LONGEST {
+        return None;
+    }
+    let place = text_place(text)?;
+    if text[place + 3] != b'#' {
+        return wide_front(text, place);
+    }
+    let (line, after) = framed_front(text, place, 3)?;
     let id = short_id(&line[place..])?;
     Some(told(text, after, said_from(line, place, id)))
 }
@@ -99,7 +140,7 @@ fn count_front(text: &[u8]) -> Option<(TickCount, usize)>
 /// The first line of a text where it is a well `tick` line: its end is looked for behind its count.
 #[inline(always)]
 fn ticks_front(text: &[u8]) -> Option<FirstLine<'_>>
-    ensures { IfSome result (λ first. IsFirstLine text.now first.line.now first.after.now first.said) }
+    ensures { IfSome result (λ first. IsFirstLine text.now first.line.now first.after.now first.said first.wide) }
 {
     let [b't', b'i', b'c', b'k', rest @ ..] = text else {
         return None;
@@ -127,13 +168,14 @@ pub fn line_end(text: &[u8]) -> Option<usize>
 #[inline(always)]
 fn other_front(text: &[u8]) -> Option<FirstLine<'_>>
     ensures { MatchOption result (HasNoFeed text.now) (λ first.
-        IsFirstLine text.now first.line.now first.after.now first.said) }
+        IsFirstLine text.now first.line.now first.after.now first.said first.wide) }
 {
     let end = line_end(text)?;
     Some(FirstLine {
         line: &text[..end],
         after: &text[end + 1..],
         said: None,
+        wide: None,
     })
 }
 
@@ -141,7 +183,7 @@ fn other_front(text: &[u8]) -> Option<FirstLine<'_>>
 #[inline(always)]
 pub fn first_line(text: &[u8]) -> Option<FirstLine<'_>>
     ensures { MatchOption result (HasNoFeed text.now) (λ first.
-        IsFirstLine text.now first.line.now first.after.now first.said) }
+        IsFirstLine text.now first.line.now first.after.now first.said first.wide) }
 {
     match usual_front(text) {
         Some(first) => Some(first),

@@ -1,9 +1,10 @@
 //! What the lines of a log give, one after the other.
 
-ghost use Rattle.std.specs.Prelude.{◌≡◌, ◌≢◌, ◌<◌, ◌≤◌, ◌⊎◌, [], ◌∷◌, ◌++◌, length, Ok, Err, Some, IfErr, OnOk, OnErr};
+ghost use Rattle.std.specs.Prelude.{◌≡◌, ◌≢◌, ℕ, ◌<◌, ◌≤◌, ◌⊎◌, [], ◌∷◌, ◌++◌, length, Ok, Err, Some, IfErr, OnOk, OnErr};
 ghost use Rattle.diag_can.specs.Line.{event_for, moment_for};
 ghost use Rattle.diag_can.specs.Log.{event_list, line_gives, without_return, waited, most_events};
 ghost use Rattle.diag_can.specs.Reading.{fault_with, given_at};
+ghost use Rattle.diag_can.specs.Usual.{IsWide};
 
 use crate::bus_line::BusLine;
 use crate::event_log::Log;
@@ -11,6 +12,7 @@ use crate::fault::LogFault;
 use crate::frame::{Ids, TickCount};
 use crate::moment_text::MomentText;
 use crate::read::{frame_for, line_says};
+use crate::usual::wide_said;
 
 /// Whether the stamps of a log carry time.
 #[derive(Clone, Copy, Debug, PartialEq, Eq)]
@@ -145,5 +147,30 @@ impl Reading {
             Ok(said) => self.take(timing, ids, &said),
             Err(fault) => Err(LogFault::Line(number, fault)),
         }
+    }
+
+    /// Takes a line, given with its CR, of the usual form with an identifier of eight digits, whose frame's text begins at this
+    /// place.
+    #[inline(never)]
+    #[tactic(auto, using(crate::proofs::Reading::took_said, crate::proofs::Reading::said_fault))]
+    pub(crate) fn take_wide(
+        &mut self,
+        timing: Timing,
+        ids: &Ids,
+        line: &[u8],
+        place: usize,
+    ) -> Result<(), LogFault>
+        requires few { length self.old.events.items ≤ most_events }
+        requires wide { IsWide line.now place }
+        ensures took { OnOk result (Took timing ids.now self.old self.new (without_return line.now)) }
+        ensures fault { IfErr result (λ fault. fault ≢ LogFault.Memory → (number : ℕ)
+            → fault_with timing ids.now self.old.events.items self.old.reference number (without_return line.now)
+            ≡ Some fault) }
+        ensures memory { result ≡ Err LogFault.Memory
+            → (length self.old.events.items < most_events)
+            × (line_gives timing self.old.reference ids.now (without_return line.now) ≢ []) }
+    {
+        let said = wide_said(&ids.known(), line, place);
+        self.take(timing, ids, &said)
     }
 }

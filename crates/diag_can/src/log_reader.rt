@@ -6,6 +6,7 @@ ghost use Rattle.diag_can.specs.Growing.{GivesMore, HasEvent};
 ghost use Rattle.diag_can.specs.HasRead.{AreRead, HasLines, HasRead};
 ghost use Rattle.diag_can.specs.Log.{events, fault_after, most_events, most_lines, without_return};
 ghost use Rattle.diag_can.specs.Pieces.{TakesLines};
+ghost use Rattle.diag_can.specs.Usual.{IsWide};
 ghost use Rattle.diag_can.specs.declared.frame.KnownId.{KnownId};
 ghost use Rattle.diag_can.specs.declared.log.Timing.{Timing};
 
@@ -110,14 +111,14 @@ impl LogReader {
     {
         let mut rest = text;
         while let Some(first) = first_line(rest) {
-            self.take_line(ids, timing, first.line, first.said)?;
+            self.take_line(ids, timing, first.line, first.said, first.wide)?;
             rest = first.after;
         }
         Ok(rest)
     }
 
-    /// Takes the line that comes next, with what it says where that is known. (What it says decides at once, so that the
-    /// lines of each front go on by themselves.)
+    /// Takes the line that comes next, with what it says where that is known, or where its frame's text begins where it is known to
+    /// be one of eight digits. (That decides at once, so that the lines of each front go on by themselves.)
     #[inline(always)]
     fn take_line(
         &mut self,
@@ -125,9 +126,11 @@ impl LogReader {
         timing: Timing,
         line: &[u8],
         said: Option<BusLine>,
+        wide: Option<usize>,
     ) -> Result<(), LogFault>
         requires read { (past : List (List ℕ)) × AreRead ids.now timing self.old past }
         requires says { IfSome said (λ said. (known : List KnownId) → bus_line known line.now ≡ Ok said) }
+        requires wide { IfSome wide (IsWide line.now) }
         ensures took { OnOk result ((past : List (List ℕ))
             → AreRead ids.now timing self.old past
             → AreRead ids.now timing self.new (past ++ without_return line.now ∷ [])) }
@@ -147,8 +150,12 @@ impl LogReader {
             None => {
                 let number = self.next_number()?;
                 self.lines = number;
-                self.reading
-                    .take_line(timing, ids, number, without_return(line))
+                match wide {
+                    Some(place) => self.reading.take_wide(timing, ids, line, place),
+                    None => self
+                        .reading
+                        .take_line(timing, ids, number, without_return(line)),
+                }
             }
         }
     }
@@ -190,7 +197,7 @@ impl LogReader {
         if begun.is_empty() {
             return Ok(self.reading.events);
         }
-        self.take_line(ids, timing, begun, None)?;
+        self.take_line(ids, timing, begun, None, None)?;
         Ok(self.reading.events)
     }
 }

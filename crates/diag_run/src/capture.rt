@@ -3,6 +3,7 @@
 ghost use Rattle.std.specs.Prelude.{◌≡◌, ◌≢◌, ◌⊎◌, ◌+◌, ◌<◌, ◌≤◌, ◌^◌, ◌∷◌, [], ◌++◌, ℕ, List, length, vec_len, Ok, Err, IsOk, IfOk, IfSome, IfErr, OnErr, OnOk};
 ghost use Rattle.std.specs.Io.KnownBytes.{Appends};
 ghost use Rattle.diag_can.specs.BusLine.{HasNoFeed, bus_line, ended_lines};
+ghost use Rattle.diag_can.specs.Usual.{IsWide};
 ghost use Rattle.diag_can.specs.declared.frame.KnownId.{KnownId as AKnownId};
 ghost use Rattle.diag_bus.specs.Bus.{AnswersLine, TookLines};
 ghost use Rattle.diag_text.specs.Bytes.{AppendsFront, Sends};
@@ -124,7 +125,7 @@ impl<S: Ending> Capture<S> {
     {
         let mut rest = piece;
         while let Some(first) = first_line(rest) {
-            if let Err(fault) = self.take_line(first.line, first.said, out) {
+            if let Err(fault) = self.take_line(first.line, first.said, first.wide, out) {
                 return Err(fault);
             }
             rest = first.after;
@@ -132,18 +133,20 @@ impl<S: Ending> Capture<S> {
         self.take_begun(rest, out)
     }
 
-    /// Takes the line that these bytes and an LF end, which say this alone, where that is known. What is to be written is
-    /// written where it is much.
+    /// Takes the line that these bytes and an LF end, which say this alone, where that is known, or whose frame's text begins at
+    /// this place, where they are known to be a line of eight digits. What is to be written is written where it is much.
     #[inline(always)]
     fn take_line<W: Target>(
         &mut self,
         bytes: &[u8],
         said: Option<BusLine>,
+        wide: Option<usize>,
         out: &mut W,
     ) -> Result<(), CaptureFault>
         requires room { self.old.lines + 1 < 2 ^ 64 }
         requires line { HasNoFeed bytes.now }
         requires says { IfSome said (λ said. (known : List AKnownId) → bus_line known bytes.now ≡ Ok said) }
+        requires wide { IfSome wide (IsWide bytes.now) }
         ensures ok { OnOk result (Sends (W.contents out.old) (W.contents out.new)
             (GoesOn S.took (wanted S.written S.ends S.aim) self.old self.new (bytes.now ++ 10 ∷ []))) }
         ensures lines { OnOk result (self.new.lines ≡ self.old.lines + 1) }
@@ -154,7 +157,7 @@ impl<S: Ending> Capture<S> {
         ensures device { IsWritings W.failed W.sound out.old out.new result }
     {
         let number = self.lines + 1;
-        if let Err(fault) = self.end_line(bytes, said) {
+        if let Err(fault) = self.end_line(bytes, said, wide) {
             return Err(stop(fault_at(number, fault), &mut self.text, out));
         }
         if self.text.len() > TEXT_LIMIT {
@@ -185,13 +188,19 @@ impl<S: Ending> Capture<S> {
         write_out(&mut self.text, out)
     }
 
-    /// Gives the bus the line that these bytes and an LF end, behind what is kept of it. (What it says decides at once, so
-    /// that the lines of each front go on by themselves.)
+    /// Gives the bus the line that these bytes and an LF end, behind what is kept of it. (What is known of it decides at once,
+    /// so that the lines of each front go on by themselves.)
     #[inline(always)]
-    fn end_line(&mut self, bytes: &[u8], said: Option<BusLine>) -> Result<(), BusFault>
+    fn end_line(
+        &mut self,
+        bytes: &[u8],
+        said: Option<BusLine>,
+        wide: Option<usize>,
+    ) -> Result<(), BusFault>
         requires room { self.old.lines + 1 < 2 ^ 64 }
         requires line { HasNoFeed bytes.now }
         requires says { IfSome said (λ said. (known : List AKnownId) → bus_line known bytes.now ≡ Ok said) }
+        requires wide { IfSome wide (IsWide bytes.now) }
         ensures ok { OnOk result (GoesOn S.took (wanted S.written S.ends S.aim) self.old self.new (bytes.now ++ 10 ∷ []) []) }
         ensures lines { OnOk result (self.new.lines ≡ self.old.lines + 1) }
         ensures kept { OnOk result (self.new.kept.items ≡ []) }
@@ -201,8 +210,31 @@ impl<S: Ending> Capture<S> {
     {
         match said {
             Some(said) if self.kept.is_empty() => self.take_told(bytes, said),
-            _ => self.take_other(bytes),
+            _ => match wide {
+                Some(place) if self.kept.is_empty() => self.take_wide(bytes, place),
+                _ => self.take_other(bytes),
+            },
         }
+    }
+
+    /// Gives the bus a line of which nothing is kept, and whose frame's text begins at this place with eight digits of its
+    /// identifier.
+    #[inline(never)]
+    fn take_wide(&mut self, bytes: &[u8], place: usize) -> Result<(), BusFault>
+        requires room { self.old.lines + 1 < 2 ^ 64 }
+        requires line { HasNoFeed bytes.now }
+        requires wide { IsWide bytes.now place }
+        requires none { self.old.kept.items ≡ [] }
+        ensures ok { OnOk result (GoesOn S.took (wanted S.written S.ends S.aim) self.old self.new (bytes.now ++ 10 ∷ []) []) }
+        ensures lines { OnOk result (self.new.lines ≡ self.old.lines + 1) }
+        ensures kept { OnOk result (self.new.kept.items ≡ []) }
+        ensures err { IfErr result (λ fault.
+            HaltsIn S.took (wanted S.written S.ends S.aim) self.old (fault_at (self.old.lines + 1) fault) (bytes.now ++ 10 ∷ []) self.new.text.items) }
+        ensures seen { SeesFault S.took self.old bytes.now (λ fault. result ≡ Err fault) }
+    {
+        self.bus.take_wide(bytes, place, &mut self.text)?;
+        self.lines += 1;
+        Ok(())
     }
 
     /// Gives the bus a line of which nothing is kept, and which says this.
@@ -299,7 +331,7 @@ impl<S: Ending> Capture<S> {
         if self.kept.is_empty() {
             return self.close(alloc, out);
         }
-        self.take_line(&[], None, out)?;
+        self.take_line(&[], None, None, out)?;
         self.close(alloc, out)
     }
 

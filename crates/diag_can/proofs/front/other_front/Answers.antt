@@ -13,4 +13,5 @@ returns c =
           ∙ ap (λ r. take end text ++ 10 ∷ r) (sym (take_all (length text - (end + 1)) after (omega (arith, length-drop (end + 1) text))));
       plain = no_feed_before text end c.in_ok-end.ensures;
       says = tt;
+      wide = tt;
     }

@@ -1,6 +1,6 @@
-use Rattle.std.proofs.Common.{◌≡◌, ◌∷◌, ℕ, ◌-◌, List, Some, length, take, drop, length-drop, sym, subst, arith, rules}
+use Rattle.std.proofs.Common.{◌≡◌, ◌∷◌, ℕ, ◌-◌, List, Some, None, length, take, drop, length-drop, sym, subst, arith, rules}
 use Rattle.std.proofs.lemmas.List.{take_all}
-use Rattle.diag_can.specs.BusLine.{IsFirstLine}
+use Rattle.diag_can.specs.Front.{IsFirstLine}
 use Rattle.diag_can.specs.declared.bus_line.BusLine.TheVariants.{Ticks}
 use Rattle.diag_can.proofs.TickFronts.{letters, ticks_line}
 use Rattle.diag_can.proofs.front.ticks_front.Goals as goal
@@ -20,4 +20,4 @@ returns c =
     let line =
     ticks_line rest after len count (rw four at read.is) (rw four at read.fits) read.few (rw (four, ends) at c.in_ok-after.ensures.is) in
     let first = c.told.ensures in
-    rw (first.line, first.after, first.said) (subst (λ (t : List ℕ). IsFirstLine t (take (length t - length after - 1) t) after (Some (Ticks count))) (sym whole) line)
+    rw (first.line, first.after, first.said, first.wide) (subst (λ (t : List ℕ). IsFirstLine t (take (length t - length after - 1) t) after (Some (Ticks count)) None) (sym whole) line)
