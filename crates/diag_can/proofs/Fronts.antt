@@ -1,5 +1,5 @@
 -- A line of the usual form at the front of a text.
-use Rattle.std.proofs.Common.{◌≡◌, ◌==◌, ◌⊎◌, ℕ, ◌+◌, ◌-◌, ◌%◌, ◌<◌, ◌≤◌, nat_lt, true, false, cond, List, [], ◌∷◌, ◌++◌, append_assoc, length, length-append, take, drop, get_or, Some, None, Ok, refl, subst, sym, ap, ◌∙◌, arith, inl, inr, drop-cons, take-append-drop, length-take-le, length-drop}
+use Rattle.std.proofs.Common.{◌≡◌, ◌==◌, ℕ, ◌+◌, ◌-◌, ◌<◌, ◌≤◌, nat_lt, true, false, cond, List, [], ◌∷◌, ◌++◌, append_assoc, length, length-append, take, drop, get_or, Some, None, Ok, refl, subst, sym, ap, ◌∙◌, arith, inl, inr, drop-cons, length-take-le, length-drop}
 use Rattle.std.specs.List.{prefix_len}
 use Rattle.std.proofs.lemmas.Bool.{agree_below, agree_below_at, cases_lt, eqb-true, ne_eqb}
 use Rattle.std.proofs.lemmas.Bool.Decides.{nat_tests}
@@ -11,13 +11,13 @@ use lib.Seq.{drop-append_seam}
 use Rattle.hex.specs.Hex.{is_hex_digit}
 use Rattle.diag_can.specs.BusLine.{HasNoFeed, IsFirstLine}
 use Rattle.diag_can.specs.Lanes.{IsRunIn, IsWithin}
-use Rattle.diag_can.specs.Line.{id_of, line_says}
+use Rattle.diag_can.specs.Line.{line_says}
 use Rattle.diag_can.specs.Log.{is_feed, without_return}
 use Rattle.diag_can.specs.Stamp.{behind, is_mark, is_no_space}
-use Rattle.diag_can.specs.Usual.{BeginsFramed, IsUsual}
+use Rattle.diag_can.specs.Usual.{BeginsFramed, HasDigits, IsFramed, IsUsual}
 use Rattle.diag_can.specs.declared.bus_line.BusLine.{BusLine}
 use Rattle.diag_can.specs.declared.frame.KnownId.{KnownId}
-use Rattle.diag_can.proofs.UsualLines.{bus_line-short, usual_parts}
+use Rattle.diag_can.proofs.UsualLines.{bus_line-short}
 use Rattle.diag_can.proofs.Windows.{back_least, back_most, framed_within, front_least, front_most}
 
 plain : (c : ℕ) → 10 < c → is_feed c ≡ false
@@ -108,91 +108,108 @@ front_is text whole after is =
     let size : length text - length after - 1 ≡ length whole = omega (arith, ap length is, length-append whole (10 ∷ after)) in
     rw size (ap (take (length whole)) is ∙ take_at whole (10 ∷ after) (length whole) refl)
 
--- the text has such a line of this length, whose parts were read
-module _ (text : List ℕ) (place count : ℕ) (f : BeginsFramed text place) (run : IsRunIn is_hex_digit text (place + 4) 16 count)
-    (some : 28 ≤ place + 4 + count) (fits : place + 4 + count < length text) where
-  abbrev end : ℕ
-  end = place + 4 + count
+-- an identifier that was read in what stands behind a place
+module _ (line part rest : List ℕ) (place width : ℕ) (cut : part ≡ take (length line - place) (drop place line)) (run : prefix_len is_hex_digit part ≡ width)
+    (hash : behind 35 (drop width part) ≡ Some rest) where
+  at_part : (k : ℕ) → get_or part k 0 ≡ get_or line (place + k) 0
+  at_part k =
+      ap (λ (t : List ℕ). get_or t k 0) (cut ∙ take_all (length line - place) (drop place line) (omega (arith, length-drop place line))) ∙ get_or-drop place line k 0
 
-  abbrev line : List ℕ
-  line = take end text
+  pub id_digits : (k : ℕ) → place ≤ k → k < place + width → is_hex_digit (get_or line k 0) ≡ true
+  id_digits k from to =
+      let here : place + (k - place) ≡ k = omega arith in
+      rw here at (ap is_hex_digit (sym (at_part (k - place))) ∙ prefix_len_passes is_hex_digit part (k - place) 0 (omega (arith, run)))
 
-  long : length line ≡ end
-  long = length-take-le end text (omega arith)
+  pub id_mark : get_or line (place + width) 0 ≡ 35
+  id_mark =
+      let here : width + 0 ≡ width = omega arith in
+      sym (at_part width) ∙ (rw here at (sym (get_or-drop width part 0 0))) ∙ begins_with 35 (drop width part) rest hash
 
-  in_line : (k : ℕ) → k < end → get_or line k 0 ≡ get_or text k 0
-  in_line k lt = get_or-take end text k 0 lt
+-- the text has such a line at its front, whose parts were read
+module _ (text line after : List ℕ) (place width : ℕ) (f : BeginsFramed text place) (h : HasDigits text line after (place + width + 1)) where
+  -- the text begins with it
+  begins : (rest : List ℕ) × (text ≡ line ++ rest)
+  begins = elim h.ends [
+    | inl feed ↦ (10 ∷ after, feed)
+    | inr both ↦ (13 ∷ 10 ∷ after, both)
+  ]
 
-  module _ (part rest : List ℕ) (cut : part ≡ take (length line - place) (drop place line)) (id : prefix_len is_hex_digit part ≡ 3)
-      (hash : behind 35 (drop 3 part) ≡ Some rest) where
-    at_part : (k : ℕ) → place + k < end → get_or part k 0 ≡ get_or text (place + k) 0
-    at_part k lt =
-        ap (λ (t : List ℕ). get_or t k 0) (cut ∙ take_all (length line - place) (drop place line) (omega (arith, length-drop place line)))
-        ∙ get_or-drop place line k 0 ∙ in_line (place + k) lt
+  fits : length line ≤ length text
+  fits = omega (arith, ap length begins.1, length-append line begins.0)
+
+  taken : take (length line) text ≡ line
+  taken = ap (take (length line)) begins.1 ∙ take_at line begins.0 (length line) refl
+
+  pub in_line : (k : ℕ) → k < length line → get_or line k 0 ≡ get_or text k 0
+  in_line k lt = ap (λ (t : List ℕ). get_or t k 0) (sym taken) ∙ get_or-take (length line) text k 0 lt
+
+  module _ (id : (k : ℕ) → place ≤ k → k < place + width → is_hex_digit (get_or line k 0) ≡ true) (mark : get_or line (place + width) 0 ≡ 35) where
+    pub is_usual : IsUsual line place width
+    is_usual =
+        let inside = h.inside in
+        let few = h.few in
+        record {
+          framed = subst (λ (l : List ℕ). IsFramed l place) taken (f.framed (length line) h.long fits);
+          inside = inside;
+          few = omega arith;
+          even = h.even;
+          id = id;
+          mark = mark;
+          digits = h.digits;
+        }
 
     -- no line ends in its frame
-    frame_plain : (k : ℕ) → place ≤ k → k < end → (is_feed (get_or text k 0) ≡ false) × ((13 == get_or text k 0) ≡ false)
-    frame_plain k inside lt = elim (cases_lt k (place + 3)) [
-      | inl digit ↦
-          let here : place + (k - place) ≡ k = omega arith in
-          let at = at_part (k - place) (omega arith) in
-          let passes = prefix_len_passes is_hex_digit part (k - place) 0 (omega (arith, id)) in
-          rw here at (plain_digit (get_or text (place + (k - place)) 0) (ap is_hex_digit (sym at) ∙ passes))
-      | inr later ↦ elim (cases_lt k (place + 4)) [
-        | inl mark ↦
-            let here : k ≡ place + 3 = omega arith in
-            let first = get_or-drop 3 part 0 0 in
-            let byte : get_or text (place + 3) 0 ≡ 35 = sym (at_part 3 (omega arith)) ∙ sym first ∙ begins_with 35 (drop 3 part) rest hash in
-            rw (here, byte) (refl, refl)
-        | inr further ↦ plain_digit (get_or text k 0) (run.pass k further (omega arith))
+    frame_plain : (k : ℕ) → place ≤ k → k < length line → (is_feed (get_or line k 0) ≡ false) × ((13 == get_or line k 0) ≡ false)
+    frame_plain k inside lt = elim (cases_lt k (place + width)) [
+      | inl digit ↦ plain_digit (get_or line k 0) (id k inside digit)
+      | inr later ↦ elim (cases_lt k (place + width + 1)) [
+        | inl hash ↦ let here : k ≡ place + width = omega arith in rw (here, mark) (refl, refl)
+        | inr further ↦ plain_digit (get_or line k 0) (h.digits k further lt)
       ]
     ]
 
     -- it ends with no CR
     without_cr : without_return line ≡ line
     without_cr =
-        let last = drop-cons line (length line - 1) 0 (omega (arith, long)) in
-        let byte = in_line (length line - 1) (omega (arith, long)) in
-        let other : (13 == get_or line (length line - 1) 0) ≡ false =
-        ap (λ (c : ℕ). 13 == c) byte ∙ (frame_plain (length line - 1) (omega (arith, long)) (omega (arith, long))).1 in
+        let within = h.inside in
+        let last = drop-cons line (length line - 1) 0 (omega arith) in
+        let other : (13 == get_or line (length line - 1) 0) ≡ false = (frame_plain (length line - 1) (omega arith) (omega arith)).1 in
         rw (last, other) refl
 
-    no_feed_to : (k : ℕ) → k < end → is_feed (get_or text k 0) ≡ false
-    no_feed_to k lt = elim (cases_lt k place) [
-      | inl before ↦ sym (ap is_feed (get_or-take place text k 0 before)) ∙ f.plain k 0 (omega (arith, length-take-le place text (omega (arith, fits))))
-      | inr inside ↦ (frame_plain k inside lt).0
-    ]
-
     line_plain : HasNoFeed line
-    line_plain = λ k d lt.
-        let inside : k < end = omega (arith, long, lt) in
-        ap is_feed (get_or-take end text k d inside ∙ get_or_default_zero text k d (omega (arith, fits, inside))) ∙ no_feed_to k inside
-
-    pub is_usual : (number : ℕ) → id_of (take 3 part) ≡ Some number → rest ≡ drop 4 part → 4 ≤ length part → count % 2 ≡ 0 → IsUsual line place number
-    is_usual number is behind_is four even =
-        let size : length line - (place + 4) ≡ count = omega (arith, long) in
-        usual_parts line place number part (f.framed end (omega (arith, f.after)) (omega (arith, fits))) cut id is (hash ∙ ap (λ (t : List ℕ). Some t) behind_is) four
-        (omega (arith, run.in_range)) (rw size even)
-        (λ k from to. ap is_hex_digit (in_line k (omega (arith, long))) ∙ run.pass k (omega (arith, long)) (omega (arith, long)))
-
-    -- it is the first line, whatever stands in front of its LF
-    is_first : (said : BusLine) (whole after : List ℕ) → text ≡ whole ++ 10 ∷ after → HasNoFeed whole → length whole ≤ end + 1 → line ≡ without_return whole
-        → ((known : List KnownId) → line_says known line ≡ Ok said) → IsFirstLine text (take (length text - length after - 1) text) after (Some said)
-    is_first said whole after is none short same says =
-        let fits : length whole ≤ 4096 = omega (arith, short, f.before, run.in_range) in
-        subst (λ (w : List ℕ). IsFirstLine text w after (Some said)) (sym (front_is text whole after is)) (record {
-          is = is;
-          plain = none;
-          says = λ known. bus_line-short known whole line said fits same (says known);
-        })
+    line_plain = λ k d lt. ap is_feed (get_or_default_zero line k d lt) ∙ no_feed k lt
+      where
+        no_feed : (k : ℕ) → k < length line → is_feed (get_or line k 0) ≡ false
+        no_feed k lt = elim (cases_lt k place) [
+          | inl before ↦
+              ap is_feed (in_line k lt ∙ sym (get_or-take place text k 0 before)) ∙ f.plain k 0 (omega (arith, length-take-le place text (omega (arith, fits, h.inside))))
+          | inr inside ↦ (frame_plain k inside lt).0
+        ]
 
     -- with an LF behind it, or a CR and an LF
-    pub front_line : (said : BusLine) (after : List ℕ) → (drop end text ≡ 10 ∷ after) ⊎ (drop end text ≡ 13 ∷ 10 ∷ after)
-        → ((known : List KnownId) → line_says known line ≡ Ok said) → IsFirstLine text (take (length text - length after - 1) text) after (Some said)
-    front_line said after (inl feed) says =
-        is_first said line after (sym (take-append-drop end text) ∙ ap (λ (t : List ℕ). line ++ t) feed) line_plain (omega (arith, long)) (sym without_cr) says
-    front_line said after (inr ends) says =
-        is_first said (line ++ 13 ∷ []) after
-        (sym (take-append-drop end text) ∙ ap (λ (t : List ℕ). line ++ t) ends ∙ sym (append_assoc line (13 ∷ []) (10 ∷ after)))
-        (All-append (λ c. is_feed c ≡ false) line (13 ∷ []) line_plain (All-cons (λ c. is_feed c ≡ false) 13 [] refl (All-nil (λ c. is_feed c ≡ false))))
-        (omega (arith, long, length-append line (13 ∷ []))) (sym (without_its_cr line)) says
+    abbrev whole : List ℕ
+    whole = take (length text - length after - 1) text
+
+    ended : (text ≡ whole ++ 10 ∷ after) × HasNoFeed whole × (length whole ≤ length line + 1) × (without_return whole ≡ line)
+    ended = elim h.ends [
+      | inl feed ↦ ends_in line feed line_plain (omega arith) without_cr
+      | inr both ↦ ends_in (line ++ 13 ∷ []) (both ∙ sym (append_assoc line (13 ∷ []) (10 ∷ after)))
+          (All-append (λ c. is_feed c ≡ false) line (13 ∷ []) line_plain (All-cons (λ c. is_feed c ≡ false) 13 [] refl (All-nil (λ c. is_feed c ≡ false))))
+          (omega (arith, length-append line (13 ∷ []))) (without_its_cr line)
+    ]
+      where
+        ends_in : (w : List ℕ) → text ≡ w ++ 10 ∷ after → HasNoFeed w → length w ≤ length line + 1 → without_return w ≡ line
+            → (text ≡ whole ++ 10 ∷ after) × HasNoFeed whole × (length whole ≤ length line + 1) × (without_return whole ≡ line)
+        ends_in w is none few same =
+            subst (λ (t : List ℕ). (text ≡ t ++ 10 ∷ after) × HasNoFeed t × (length t ≤ length line + 1) × (without_return t ≡ line)) (sym (front_is text w after is)) (is, none, few, same)
+
+    short : length whole ≤ 45 + width
+    short = let few = h.few in let before = f.before in let more = ended.2 in omega arith
+
+    -- it is the first line, which says this where these identifiers are read
+    pub said_line : (known : List KnownId) (said : BusLine) → width ≤ 8 → line_says known line ≡ Ok said → IsFirstLine known text whole after (Some said)
+    said_line known said narrow says = record {
+      is = ended.0;
+      plain = ended.1;
+      says = bus_line-short known whole line said (omega (arith, short)) (sym ended.3) says;
+    }

@@ -7,6 +7,7 @@ use Rattle.diag_can.specs.HasRead.{AreRead, HasLines, HasRead}
 use Rattle.diag_can.specs.Log.{is_feed, lines_of, fault_after, events, without_return}
 use Rattle.diag_can.specs.Pieces.{TakesLines}
 use Rattle.diag_can.specs.declared.bus_line.BusLine.{BusLine}
+use Rattle.diag_can.specs.declared.frame.KnownId.{KnownId}
 use Rattle.diag_can.specs.declared.fault.LogFault.{LogFault}
 use Rattle.diag_can.specs.declared.fault.LogFault.TheVariants.{Memory}
 use Rattle.diag_can.specs.declared.frame.Ids.{Ids}
@@ -43,7 +44,7 @@ none_read ids timing r text = record {
 
 module _ {ids : Ids} {timing : Timing} {old mid : LogReader} {text rest : List ℕ} (f : FrontRead ids timing old mid text rest) where
   -- a line more, which a line feed ends
-  pub line_more : (line after : List ℕ) {said : Option BusLine} (l : IsFirstLine rest line after said) (new : LogReader)
+  pub line_more : (line after : List ℕ) {known : List KnownId} {said : Option BusLine} (l : IsFirstLine known rest line after said) (new : LogReader)
       → ((past : List (List ℕ)) → AreRead ids timing mid past → AreRead ids timing new (past ++ without_return line ∷ []))
       → FrontRead ids timing old new text after
   line_more line after l new took = record {
@@ -62,14 +63,14 @@ module _ {ids : Ids} {timing : Timing} {old mid : LogReader} {text rest : List �
       ap (λ (t : List ℕ). seen ++ (t ++ more)) f.is ∙ ap (λ (t : List ℕ). seen ++ t) (append_assoc f.front rest more)
       ∙ sym (append_assoc seen f.front (rest ++ more))
 
-  begins : (line after more : List ℕ) {said : Option BusLine} (l : IsFirstLine rest line after said)
+  begins : (line after more : List ℕ) {known : List KnownId} {said : Option BusLine} (l : IsFirstLine known rest line after said)
       → lines_of (rest ++ more) ≡ without_return line ∷ lines_of (after ++ more)
   begins line after more l =
       ap (λ (t : List ℕ). lines_of (t ++ more)) l.is ∙ ap lines_of (append_assoc line (10 ∷ after) more)
       ∙ lines_of-first line (after ++ more) l.plain
 
   -- the line that comes next gives an event
-  pub line_gives_more : (line after : List ℕ) {said : Option BusLine} (l : IsFirstLine rest line after said)
+  pub line_gives_more : (line after : List ℕ) {known : List KnownId} {said : Option BusLine} (l : IsFirstLine known rest line after said)
       → ((past : List (List ℕ)) → AreRead ids timing mid past → GivesMore timing ids past (without_return line))
       → (seen more : List ℕ) → HasLines ids timing old seen → HasEvent timing ids (seen ++ (text ++ more))
   line_gives_more line after l gives seen more h =
@@ -78,7 +79,7 @@ module _ {ids : Ids} {timing : Timing} {old mid : LogReader} {text rest : List �
       (more_next here (without_return line) (rest ++ more) (lines_of (after ++ more)) (begins line after more l) (gives (lines_of (seen ++ f.front)) here.read))
 
   -- the line that comes next is at fault
-  pub line_fault : (line after : List ℕ) {said : Option BusLine} (l : IsFirstLine rest line after said) (fault : LogFault)
+  pub line_fault : (line after : List ℕ) {known : List KnownId} {said : Option BusLine} (l : IsFirstLine known rest line after said) (fault : LogFault)
       → ((past : List (List ℕ)) → AreRead ids timing mid past → fault_after timing ids past (without_return line) ≡ Some fault)
       → (seen more : List ℕ) → HasLines ids timing old seen → events (seen ++ (text ++ more)) ids timing ≡ Err fault
   line_fault line after l fault at seen more h =

@@ -113,16 +113,16 @@ module _ (rest after : List ℕ) (len count : ℕ) (well : tick_count (take len 
   line_is known = rw well refl
 
   is_front : (whole : List ℕ) → text ≡ whole ++ 10 ∷ after → HasNoFeed whole → length whole ≤ 4096 → without_return whole ≡ line
-      → IsFirstLine text (take (length text - length after - 1) text) after (Some (Ticks count))
-  is_front whole is none short same =
-      subst (λ (w : List ℕ). IsFirstLine text w after (Some (Ticks count))) (sym (front_is text whole after is)) (record {
+      → (known : List KnownId) → IsFirstLine known text (take (length text - length after - 1) text) after (Some (Ticks count))
+  is_front whole is none short same known =
+      subst (λ (w : List ℕ). IsFirstLine known text w after (Some (Ticks count))) (sym (front_is text whole after is)) (record {
         is = is;
         plain = none;
-        says = λ known. bus_line-short known whole line (Ticks count) short (sym same) (line_is known);
+        says = bus_line-short known whole line (Ticks count) short (sym same) (line_is known);
       })
 
   pub ticks_line : (drop len rest ≡ 10 ∷ after) ⊎ (drop len rest ≡ 13 ∷ 10 ∷ after)
-      → IsFirstLine text (take (length text - length after - 1) text) after (Some (Ticks count))
+      → (known : List KnownId) → IsFirstLine known text (take (length text - length after - 1) text) after (Some (Ticks count))
   ticks_line (inl feed) =
       is_front line (ap (λ (t : List ℕ). 116 ∷ 105 ∷ 99 ∷ 107 ∷ t) (sym (take-append-drop len rest) ∙ ap (λ (t : List ℕ). take len rest ++ t) feed))
       line_plain (omega (arith, size)) (without_cr line (omega (arith, size)) plain)

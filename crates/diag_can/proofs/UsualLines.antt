@@ -11,12 +11,12 @@ use Rattle.hex.specs.Hex.{is_hex_digit, decode_of}
 use Rattle.hex.proofs.HexLemmas.{decode_of-digits}
 use Rattle.diag_can.specs.Stamp.{is_digit, is_space, is_no_space, behind, behind_run, digits_of, moment_of}
 use Rattle.diag_can.specs.declared.bus_line.BusLine.TheVariants.{Stamped}
-use Rattle.diag_can.specs.Line.{line_says, stamped, stamped_frame, is_time, data_frame, frame_data, frame_of, text_frame, id_of}
+use Rattle.diag_can.specs.Line.{line_says, stamped, stamped_frame, is_time, data_frame, frame_data, frame_of, text_frame, id_of, is_among, wide_frame, wide_id_of}
 use Rattle.diag_can.specs.BusLine.{bus_line}
 use Rattle.diag_can.specs.Lanes.{IsRunIn}
 use Rattle.diag_can.specs.Log.{without_return}
 use Rattle.diag_can.specs.FrameText.{EndsInBytes, bytes_or_none, last_bytes, last_digits}
-use Rattle.diag_can.specs.Usual.{IsFramed, IsUsual}
+use Rattle.diag_can.specs.Usual.{IsFramed, IsUsual, usual_frame}
 use Rattle.diag_can.specs.MomentText.{usual_moment}
 use Rattle.diag_can.specs.declared.bus_line.BusLine.{BusLine}
 use Rattle.diag_can.specs.declared.fault.LineFault.TheVariants.{BadLine}
@@ -119,14 +119,19 @@ data_frame-digits known id (c ∷ rest) all =
     let remote = marks.1 in
     rw (hash, remote) refl
 
-three_of : (text : List ℕ) → 4 ≤ length text → (length (take 3 text) == 8) ≡ false
-three_of text le = let three = length-take-le 3 text (omega arith) in rw three refl
+-- the text of a frame with this identifier, by the digits in front of its `#`
+module _ (known : List KnownId) (text rest : List ℕ) (width : ℕ) (run : prefix_len is_hex_digit text ≡ width) (long : width ≤ length text)
+    (hash : behind 35 (drop width text) ≡ Some rest) where
+  size_of : length (take width text) ≡ width
+  size_of = length-take-le width text long
 
-module _ (known : List KnownId) (text rest : List ℕ) (id : ℕ) (run : prefix_len is_hex_digit text ≡ 3) (long : 4 ≤ length text) (is : id_of (take 3 text) ≡ Some id)
-    (hash : behind 35 (drop 3 text) ≡ Some rest)
-    (all : AllPass is_hex_digit rest) where
-  text_frame-is : text_frame known text ≡ frame_of id (frame_data rest)
-  text_frame-is = let short = three_of text long in rw (run, hash, short, is) (data_frame-digits known id rest all)
+  short_frame-is : (id : ℕ) → width ≡ 3 → id_of (take width text) ≡ Some id → AllPass is_hex_digit rest → text_frame known text ≡ frame_of id (frame_data rest)
+  short_frame-is id three is all =
+      let other : (length (take width text) == 8) ≡ false = ne_eqb _ 8 (λ same. absurd (omega (arith, size_of, same, three))) in
+      rw (run, hash, other, is) (data_frame-digits known id rest all)
+
+  wide_frame-is : width ≡ 8 → text_frame known text ≡ wide_frame known (wide_id_of (take width text)) rest
+  wide_frame-is eight = let same : (length (take width text) == 8) ≡ true = eq-eqb _ _ (size_of ∙ eight) in rw (run, hash, same) refl
 
 pub is_ok-from : (rest bytes : List ℕ) → decode_of rest ≡ Ok bytes → IsOk (decode_of rest)
 is_ok-from rest bytes is = rw is refl
@@ -142,29 +147,42 @@ stamped_says : (known : List KnownId) (line text : List ℕ) (moment : ℕ) (fra
     → text_frame known text ≡ Ok frame → line_says known line ≡ Ok (Stamped moment frame)
 stamped_says known line text moment frame long plain stamp is = framed_line known line text moment long plain stamp ∙ ap (stamped moment) is
 
-module _ (line : List ℕ) (place id : ℕ) (u : IsUsual line place id) where
+module _ (line : List ℕ) (place width : ℕ) (u : IsUsual line place width) where
+  abbrev text : List ℕ
+  text = drop place line
+
   abbrev rest : List ℕ
-  rest = drop (place + 4) line
+  rest = drop (place + width + 1) line
 
   -- the bytes of its frame
   abbrev count : ℕ
-  count = (length line - (place + 4)) / 2
+  count = (length line - (place + width + 1)) / 2
 
-  size : length rest ≡ length line - (place + 4)
-  size = length-drop (place + 4) line
+  size : length rest ≡ length line - (place + width + 1)
+  size = length-drop (place + width + 1) line
 
   even : length rest % 2 ≡ 0
   even = ap (λ (n : ℕ). n % 2) size ∙ u.even
 
   all : AllPass is_hex_digit rest
   all = All-from_get_or (λ c. is_hex_digit c ≡ true) rest 0
-      (λ k below. ap is_hex_digit (get_or-drop (place + 4) line k 0) ∙ u.digits (place + 4 + k) (omega arith) (omega (arith, size)))
+      (λ k below. ap is_hex_digit (get_or-drop (place + width + 1) line k 0) ∙ u.digits (place + width + 1 + k) (omega arith) (omega (arith, size)))
+
+  -- its identifier
+  id_run : prefix_len is_hex_digit text ≡ width
+  id_run = run_at is_hex_digit line place width (let inside = u.inside in omega arith) (λ k below. u.id (place + k) (omega arith) (omega arith)) (ap is_hex_digit u.mark)
+
+  mark : behind 35 (drop width text) ≡ Some rest
+  mark = ap (behind 35) (drop-drop width place line) ∙ behind_at 35 line (place + width) (let inside = u.inside in omega arith) u.mark
+
+  long : width ≤ length text
+  long = let inside = u.inside in omega (arith, length-drop place line)
 
   same : last_digits line count ≡ rest
   same =
       let inside = u.inside in
       let whole = u.even in
-      let at : length line - 2 * count ≡ place + 4 = omega arith in
+      let at : length line - 2 * count ≡ place + width + 1 = omega arith in
       ap (λ (n : ℕ). drop n line) at
 
   value : (bytes : List ℕ) × (decode_of rest ≡ Ok bytes)
@@ -176,38 +194,32 @@ module _ (line : List ℕ) (place id : ℕ) (u : IsUsual line place id) where
       let few = u.few in
       record { few = omega arith; inside = omega arith; hex = rw same (is_ok-from rest value.0 value.1) }
 
-  -- what it says
-  pub says : (known : List KnownId) → line_says known line ≡ Ok (Stamped (usual_moment line) (Some (record { id = id; bytes = last_bytes line count })))
-  says known =
-      let text : List ℕ = drop place line in
+  -- its data
+  data_is : frame_data rest ≡ Ok (last_bytes line count)
+  data_is =
       let inside = u.inside in
       let few = u.few in
-      let long : 4 ≤ length text = omega (arith, length-drop place line) in
       let bytes : Ok value.0 ≡ Ok (last_bytes line count) = ap (λ (b : List ℕ). Ok b) (sym (ap bytes_or_none (ap decode_of same ∙ value.1))) in
-      let read = data_from_digits rest value.0 all (omega (arith, size)) even value.1 ∙ bytes in
-      stamped_says known line text (usual_moment line) _ (omega (arith, u.framed.long)) u.framed.is_frame u.framed.stamped
-      (text_frame-is known text rest id u.run long u.id_is u.mark all ∙ ap (frame_of id) read)
+      data_from_digits rest value.0 all (omega (arith, size)) even value.1 ∙ bytes
 
--- such a line, from the parts that were read
-pub usual_parts : (line : List ℕ) (place id : ℕ) (text : List ℕ) → IsFramed line place → text ≡ take (length line - place) (drop place line)
-    → prefix_len is_hex_digit text ≡ 3 → id_of (take 3 text) ≡ Some id → behind 35 (drop 3 text) ≡ Some (drop 4 text) → 4 ≤ length text
-    → length line - (place + 4) ≤ 16 → (length line - (place + 4)) % 2 ≡ 0
-    → ((k : ℕ) → length line - (length line - (place + 4)) ≤ k → k < length line → is_hex_digit (get_or line k 0) ≡ true)
-    → IsUsual line place id
-usual_parts line place id text framed cut run is hash long few even digits =
-    let whole : text ≡ drop place line = cut ∙ take_all (length line - place) (drop place line) (omega (arith, length-drop place line)) in
-    let behind_hash : drop 4 text ≡ drop (place + 4) line = ap (drop 4) whole ∙ drop-drop 4 place line in
-    let room : place + 4 ≤ length line = (let inside = framed.inside in omega (arith, ap length whole, length-drop place line)) in
-    record {
-      framed = framed;
-      inside = room;
-      few = omega arith;
-      even = even;
-      run = ap (prefix_len is_hex_digit) (sym whole) ∙ run;
-      id_is = ap (λ (t : List ℕ). id_of (take 3 t)) (sym whole) ∙ is;
-      mark = ap (λ (t : List ℕ). behind 35 (drop 3 t)) (sym whole) ∙ hash ∙ ap (λ (t : List ℕ). Some t) behind_hash;
-      digits = λ k from to. digits k (omega arith) to;
-    }
+  -- what it says, by its frame
+  framed_says : (known : List KnownId) (frame : Option Frame) → text_frame known text ≡ Ok frame → line_says known line ≡ Ok (Stamped (usual_moment line) frame)
+  framed_says known frame is =
+      stamped_says known line text (usual_moment line) frame (omega (arith, u.framed.long)) u.framed.is_frame u.framed.stamped is
+
+  -- with three digits
+  pub says : width ≡ 3 → (id : ℕ) → id_of (take width text) ≡ Some id → (known : List KnownId)
+      → line_says known line ≡ Ok (Stamped (usual_moment line) (Some (usual_frame line place width id)))
+  says three id is known = framed_says known _ (short_frame-is known text rest width id_run long mark id three is all ∙ ap (frame_of id) data_is)
+
+  -- with eight
+  pub wide_says : width ≡ 8 → (known : List KnownId) (frame : Option Frame) → wide_frame known (wide_id_of (take width text)) rest ≡ Ok frame
+      → line_says known line ≡ Ok (Stamped (usual_moment line) frame)
+  wide_says eight known frame is = framed_says known frame (wide_frame-is known text rest width id_run long mark eight ∙ is)
+
+  pub among : (known : List KnownId) (id : ℕ) → wide_id_of (take width text) ≡ Some id → is_among known id ≡ true
+      → wide_frame known (wide_id_of (take width text)) rest ≡ Ok (Some (usual_frame line place width id))
+  among known id is known_is = rw (is, known_is) (data_frame-digits known id rest all ∙ ap (frame_of id) data_is)
 
 -- ---- as a whole line of a capture
 

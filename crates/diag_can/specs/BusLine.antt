@@ -30,12 +30,12 @@ bus_lines text = whole_pieces (slice_split is_feed text)
 abbrev pub HasNoFeed : List ℕ → Type 0
 HasNoFeed line = All (λ c. is_feed c ≡ false) line
 
--- the first line of a text without its line feed, what follows that, and what the line says where that is known: that doesn't
--- depend on which identifiers are read
-pub record IsFirstLine (text line after : List ℕ) (said : Option BusLine) : Type 0 where
+-- the first line of a text without its line feed, what follows that, and what the line says where that is known, where these
+-- identifiers are read
+pub record IsFirstLine (known : List KnownId) (text line after : List ℕ) (said : Option BusLine) : Type 0 where
   pub is : text ≡ line ++ 10 ∷ after
   pub plain : HasNoFeed line
-  pub says : IfSome said (λ said. (known : List KnownId) → bus_line known line ≡ Ok said)
+  pub says : IfSome said (λ said. bus_line known line ≡ Ok said)
 
 abbrev pub front_pieces : List (List ℕ) → List (List ℕ)
 front_pieces [] = []

@@ -1,12 +1,13 @@
 -- Lines of the usual form: ten digits of seconds and six of the fraction, and nothing but the frame's digits behind its `#`.
-use Rattle.std.specs.Prelude.{◌≡◌, ℕ, ◌+◌, ◌-◌, ◌*◌, ◌%◌, ◌≤◌, ◌<◌, List, length, take, drop, slice_index, Some, true, false}
-use Rattle.std.specs.List.{prefix_len}
+use Rattle.std.specs.Prelude.{◌≡◌, ◌⊎◌, ℕ, ◌+◌, ◌-◌, ◌*◌, ◌/◌, ◌%◌, ◌≤◌, ◌<◌, List, ◌∷◌, ◌++◌, length, take, drop, slice_index, Some, true, false}
 use Rattle.hex.specs.Hex.{is_hex_digit}
+use Rattle.diag_can.specs.FrameText.{last_bytes}
 use Rattle.diag_can.specs.MomentText.{usual_moment}
-use Rattle.diag_can.specs.Stamp.{behind, is_digit}
-use Rattle.diag_can.specs.Line.{id_of, is_time, stamped_frame}
+use Rattle.diag_can.specs.Stamp.{is_digit}
+use Rattle.diag_can.specs.Line.{is_time, stamped_frame}
 use Rattle.diag_can.specs.BusLine.{HasNoFeed}
 use Rattle.diag_can.specs.Lanes.{IsRunIn}
+use Rattle.diag_can.specs.declared.frame.Frame.{Frame}
 
 -- three bytes from a place on, weighed as digits are
 abbrev pub three_at : List ℕ → ℕ → ℕ
@@ -29,13 +30,27 @@ pub record BeginsFramed (text : List ℕ) (place : ℕ) : Type 0 where
   pub plain : HasNoFeed (take place text)
   pub framed : (n : ℕ) → 28 ≤ n → n ≤ length text → IsFramed (take n text) place
 
--- such a line: at this place its frame's text begins, with this identifier of three digits, and ends in hex digits alone
-pub record IsUsual (line : List ℕ) (place id : ℕ) : Type 0 where
+-- in front of a line's end the text has this line, which has nothing but pairs of up to sixteen hex digits from a place on, and this
+-- behind the end
+pub record HasDigits (text line after : List ℕ) (at : ℕ) : Type 0 where
+  pub long : 28 ≤ length line
+  pub inside : at ≤ length line
+  pub few : length line ≤ at + 16
+  pub even : (length line - at) % 2 ≡ 0
+  pub digits : (k : ℕ) → at ≤ k → k < length line → is_hex_digit (slice_index line k) ≡ true
+  pub ends : (text ≡ line ++ 10 ∷ after) ⊎ (text ≡ line ++ 13 ∷ 10 ∷ after)
+
+-- such a line: at this place its frame's text begins, with so many digits of its identifier and a `#`, and ends in up to sixteen
+-- hex digits, which are pairs
+pub record IsUsual (line : List ℕ) (place width : ℕ) : Type 0 where
   pub framed : IsFramed line place
-  pub inside : place + 4 ≤ length line
-  pub few : length line ≤ place + 20
-  pub even : (length line - (place + 4)) % 2 ≡ 0
-  pub run : prefix_len is_hex_digit (drop place line) ≡ 3
-  pub id_is : id_of (take 3 (drop place line)) ≡ Some id
-  pub mark : behind 35 (drop 3 (drop place line)) ≡ Some (drop (place + 4) line)
-  pub digits : (k : ℕ) → place + 4 ≤ k → k < length line → is_hex_digit (slice_index line k) ≡ true
+  pub inside : place + width + 1 ≤ length line
+  pub few : length line ≤ place + width + 17
+  pub even : (length line - (place + width + 1)) % 2 ≡ 0
+  pub id : (k : ℕ) → place ≤ k → k < place + width → is_hex_digit (slice_index line k) ≡ true
+  pub mark : slice_index line (place + width) ≡ 35
+  pub digits : (k : ℕ) → place + width + 1 ≤ k → k < length line → is_hex_digit (slice_index line k) ≡ true
+
+-- its frame, with this identifier
+abbrev pub usual_frame : List ℕ → ℕ → ℕ → ℕ → Frame
+usual_frame line place width id = record { id = id; bytes = last_bytes line ((length line - (place + width + 1)) / 2) }

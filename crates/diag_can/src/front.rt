@@ -1,22 +1,24 @@
 //! The first line of a text: most lines are of the usual form or well `tick` lines, whose end is looked for behind what is read.
 
-ghost use Rattle.std.specs.Prelude.{◌≡◌, ◌-◌, ◌<◌, ◌≤◌, ◌∷◌, ◌⊎◌, length, take, IfSome, MatchOption, Some};
+ghost use Rattle.std.specs.Prelude.{◌≡◌, ◌-◌, ◌<◌, ◌≤◌, ◌∷◌, ◌⊎◌, ◌+◌, List, length, take, IfSome, MatchOption, Some};
 ghost use Rattle.memchr.specs.Find.{IsFirstByte};
 ghost use Rattle.diag_can.specs.BusLine.{HasNoFeed, IsFirstLine};
 ghost use Rattle.diag_can.specs.Line.{tick_count};
 ghost use Rattle.diag_can.specs.Log.{is_feed};
+ghost use Rattle.diag_can.specs.Usual.{BeginsFramed, HasDigits};
+ghost use Rattle.diag_can.specs.declared.frame.KnownId.{KnownId as AKnownId};
 
 use crate::bus_line::BusLine;
-use crate::frame::TickCount;
+use crate::frame::{KnownId, TickCount};
 use crate::lanes::{hex_of_sixteen, line_run};
 use crate::line::short_id;
 use crate::read::ticks_of;
 use crate::stamp::{behind, number_run};
-use crate::usual::{SHORTEST, said_from, text_place};
+use crate::usual::{SHORTEST, said_from, text_place, wide_said};
 use memchr::memchr;
 
 /// The longest line of the usual form with its end.
-const LONGEST: usize = 48;
+const LONGEST: usize = 53;
 
 /// The first line of a text, which an LF ends.
 #[derive(Drop)]
@@ -58,16 +60,15 @@ fn told<'a>(text: &'a [u8], after: &'a [u8], said: BusLine<'a>) -> FirstLine<'a>
     }
 }
 
-/// The first line of a text where it is of the usual form: its end is looked for behind the digits.
+/// The line at the front of a text, without its end, and what follows that, where behind so many digits of its identifier and a
+/// mark there is nothing but pairs of hex digits: its end is looked for behind these.
 #[inline(always)]
-fn usual_front(text: &[u8]) -> Option<FirstLine<'_>>
-    ensures { IfSome result (λ first. IsFirstLine text.now first.line.now first.after.now first.said) }
+fn framed_front(text: &[u8], place: usize, width: usize) -> Option<(&[u8], &[u8])>
+    requires begins { BeginsFramed text.now place }
+    requires room { place + width + 17 < length text.now }
+    ensures { IfSome result (λ r. HasDigits text.now r.0.now r.1.now (place + width + 1)) }
 {
-    if text.len() < LONGEST {
-        return None;
-    }
-    let place = text_place(text)?;
-    let at = place + 4;
+    let at = place + width + 1;
     let count = hex_of_sixteen(text, at);
     let end = at + count;
     if end < SHORTEST || count % 2 != 0 {
@@ -75,6 +76,37 @@ fn usual_front(text: &[u8]) -> Option<FirstLine<'_>>
     }
     let (line, rest) = text.split_at(end);
     let after = behind_end(rest)?;
+    Some((line, after))
+}
+
+/// The first line of a text where it is of the usual form with an identifier of eight digits, at this place. What it says depends on
+/// which identifiers are read.
+#[inline(always)]
+fn wide_front<'a>(known: &[KnownId], text: &'a [u8], place: usize) -> Option<FirstLine<'a>>
+    requires begins { BeginsFramed text.now place }
+    requires long { 53 ≤ length text.now }
+    ensures { IfSome result (λ first. IsFirstLine known.now text.now first.line.now first.after.now first.said) }
+{
+    if text[place + 8] != b'#' || hex_of_sixteen(text, place) != 8 {
+        return None;
+    }
+    let (line, after) = framed_front(text, place, 8)?;
+    Some(told(text, after, wide_said(known, line, place)))
+}
+
+/// The first line of a text where it is of the usual form. Most identifiers have three digits.
+#[inline(always)]
+fn usual_front<'a>(known: &[KnownId], text: &'a [u8]) -> Option<FirstLine<'a>>
+    ensures { IfSome result (λ first. IsFirstLine known.now text.now first.line.now first.after.now first.said) }
+{
+    if text.len() < LONGEST {
+        return None;
+    }
+    let place = text_place(text)?;
+    if text[place + 3] != b'#' {
+        return wide_front(known, text, place);
+    }
+    let (line, after) = framed_front(text, place, 3)?;
     let id = short_id(&line[place..])?;
     Some(told(text, after, said_from(line, place, id)))
 }
@@ -99,7 +131,8 @@ fn count_front(text: &[u8]) -> Option<(TickCount, usize)>
 /// The first line of a text where it is a well `tick` line: its end is looked for behind its count.
 #[inline(always)]
 fn ticks_front(text: &[u8]) -> Option<FirstLine<'_>>
-    ensures { IfSome result (λ first. IsFirstLine text.now first.line.now first.after.now first.said) }
+    ensures { IfSome result (λ first. (known : List AKnownId)
+        → IsFirstLine known text.now first.line.now first.after.now first.said) }
 {
     let [b't', b'i', b'c', b'k', rest @ ..] = text else {
         return None;
@@ -126,8 +159,8 @@ pub fn line_end(text: &[u8]) -> Option<usize>
 /// The first line of a text, whatever it says.
 #[inline(always)]
 fn other_front(text: &[u8]) -> Option<FirstLine<'_>>
-    ensures { MatchOption result (HasNoFeed text.now) (λ first.
-        IsFirstLine text.now first.line.now first.after.now first.said) }
+    ensures { MatchOption result (HasNoFeed text.now) (λ first. (known : List AKnownId)
+        → IsFirstLine known text.now first.line.now first.after.now first.said) }
 {
     let end = line_end(text)?;
     Some(FirstLine {
@@ -137,13 +170,13 @@ fn other_front(text: &[u8]) -> Option<FirstLine<'_>>
     })
 }
 
-/// The first line of a text, where an LF ends it.
+/// The first line of a text, where an LF ends it, and what it says where these identifiers are read.
 #[inline(always)]
-pub fn first_line(text: &[u8]) -> Option<FirstLine<'_>>
+pub fn first_line<'a>(known: &[KnownId], text: &'a [u8]) -> Option<FirstLine<'a>>
     ensures { MatchOption result (HasNoFeed text.now) (λ first.
-        IsFirstLine text.now first.line.now first.after.now first.said) }
+        IsFirstLine known.now text.now first.line.now first.after.now first.said) }
 {
-    match usual_front(text) {
+    match usual_front(known, text) {
         Some(first) => Some(first),
         None => match ticks_front(text) {
             Some(first) => Some(first),

@@ -4,9 +4,9 @@ ghost use Rattle.std.specs.Prelude.{◌≡◌, ◌≢◌, ◌<◌, ◌≤◌, �
 ghost use Rattle.diag_can.specs.BusLine.{HasNoFeed, bus_line};
 ghost use Rattle.diag_can.specs.Growing.{GivesMore, HasEvent};
 ghost use Rattle.diag_can.specs.HasRead.{AreRead, HasLines, HasRead};
+ghost use Rattle.diag_can.specs.Line.{known_to};
 ghost use Rattle.diag_can.specs.Log.{events, fault_after, most_events, most_lines, without_return};
 ghost use Rattle.diag_can.specs.Pieces.{TakesLines};
-ghost use Rattle.diag_can.specs.declared.frame.KnownId.{KnownId};
 ghost use Rattle.diag_can.specs.declared.log.Timing.{Timing};
 
 use crate::bus_line::BusLine;
@@ -108,8 +108,9 @@ impl LogReader {
             → HasEvent timing ids.now (seen ++ (text.now ++ more)) }
         ensures still { self.new.fault ≡ self.old.fault }
     {
+        let known = ids.known();
         let mut rest = text;
-        while let Some(first) = first_line(rest) {
+        while let Some(first) = first_line(&known, rest) {
             self.take_line(ids, timing, first.line, first.said)?;
             rest = first.after;
         }
@@ -127,7 +128,7 @@ impl LogReader {
         said: Option<BusLine>,
     ) -> Result<(), LogFault>
         requires read { (past : List (List ℕ)) × AreRead ids.now timing self.old past }
-        requires says { IfSome said (λ said. (known : List KnownId) → bus_line known line.now ≡ Ok said) }
+        requires says { IfSome said (λ said. bus_line (known_to ids.now) line.now ≡ Ok said) }
         ensures took { OnOk result ((past : List (List ℕ))
             → AreRead ids.now timing self.old past
             → AreRead ids.now timing self.new (past ++ without_return line.now ∷ [])) }

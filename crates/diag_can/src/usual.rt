@@ -1,18 +1,20 @@
 //! A line of the usual form, of which many bytes are read at once: a stamp of ten digits and six, one space, a short name, one
-//! space, an identifier of three digits, and behind its `#` nothing but pairs of hex digits. Other lines are read part by part.
+//! space, an identifier of three digits or of eight, and behind its `#` nothing but pairs of hex digits. Other lines are read
+//! part by part.
 
-ghost use Rattle.std.specs.Prelude.{◌≡◌, ◌<◌, ◌≤◌, List, length, IfSome, Ok};
+ghost use Rattle.std.specs.Prelude.{◌≡◌, ◌<◌, ◌≤◌, ◌+◌, List, length, take, drop, IfSome, Some, Ok};
 ghost use Rattle.diag_can.specs.Lanes.{IsRunIn};
-ghost use Rattle.diag_can.specs.Line.{line_says};
+ghost use Rattle.diag_can.specs.Line.{id_of, line_says, wide_frame, wide_id_of};
 ghost use Rattle.diag_can.specs.Stamp.{is_digit};
-ghost use Rattle.diag_can.specs.Usual.{BeginsFramed, IsUsual, three_at};
+ghost use Rattle.diag_can.specs.Usual.{BeginsFramed, IsUsual, three_at, usual_frame};
 ghost use Rattle.diag_can.specs.MomentText.{usual_moment};
-ghost use Rattle.diag_can.specs.declared.frame.KnownId.{KnownId};
+ghost use Rattle.diag_can.specs.declared.frame.KnownId.{KnownId as AKnownId};
 
 use crate::bus_line::BusLine;
-use crate::frame::CanId;
+use crate::frame::{CanId, KnownId};
 use crate::frame_text::FrameText;
 use crate::lanes::{eight_of_word, is_within};
+use crate::line::{has_extended, is_among, wide_id_of};
 use crate::moment_text::MomentText;
 use std::simd::prelude::*;
 
@@ -37,15 +39,54 @@ pub fn text_place(line: &[u8]) -> Option<usize>
     Some(21 + word)
 }
 
-/// What a line of the usual form says, whose frame's text begins at this place and has this identifier.
+/// The frame of a line of the usual form, whose text begins at this place with so many digits of this identifier.
+#[inline(always)]
+fn frame_from(line: &[u8], place: usize, width: usize, id: CanId) -> FrameText<'_>
+    requires { IsUsual line.now place width }
+    ensures { result ≡ usual_frame line.now place width id }
+{
+    FrameText::new(id, line, (line.len() - (place + width + 1)) / 2)
+}
+
+/// What a line of the usual form says, whose frame's text begins at this place with three digits of this identifier.
 #[inline(always)]
 pub fn said_from(line: &[u8], place: usize, id: CanId) -> BusLine<'_>
-    requires { IsUsual line.now place id }
-    ensures { (known : List KnownId) → line_says known line.now ≡ Ok result }
+    requires usual { IsUsual line.now place 3 }
+    requires id { id_of (take 3 (drop place line.now)) ≡ Some id }
+    ensures { (known : List AKnownId) → line_says known line.now ≡ Ok result }
 {
     BusLine::Stamped {
         moment: MomentText::usual(line),
-        frame: Some(FrameText::new(id, line, (line.len() - (place + 4)) / 2)),
+        frame: Some(frame_from(line, place, 3, id)),
+    }
+}
+
+/// What a line of the usual form says where these identifiers are read, whose frame's text begins at this place with eight digits
+/// of its identifier.
+#[inline(always)]
+pub fn wide_said<'a>(known: &[KnownId], line: &'a [u8], place: usize) -> BusLine<'a>
+    requires { IsUsual line.now place 8 }
+    ensures { line_says known.now line.now ≡ Ok result }
+{
+    BusLine::Stamped {
+        moment: MomentText::usual(line),
+        frame: wide_frame_from(known, line, place),
+    }
+}
+
+/// The frame of such a line, where its identifier is read. Where none of 29 bits is, the digits aren't looked at.
+#[inline(always)]
+#[tactic(auto, using(crate::proofs::WideIds::passed_over))]
+fn wide_frame_from<'a>(known: &[KnownId], line: &'a [u8], place: usize) -> Option<FrameText<'a>>
+    requires { IsUsual line.now place 8 }
+    ensures { wide_frame known.now (wide_id_of (take 8 (drop place line.now))) (drop (place + 9) line.now) ≡ Ok result }
+{
+    if !has_extended(known) {
+        return None;
+    }
+    match wide_id_of(&line[place..place + 8]) {
+        Some(id) if is_among(known, id) => Some(frame_from(line, place, 8, id)),
+        _ => None,
     }
 }
 

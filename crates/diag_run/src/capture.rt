@@ -2,9 +2,9 @@
 
 ghost use Rattle.std.specs.Prelude.{◌≡◌, ◌≢◌, ◌⊎◌, ◌+◌, ◌<◌, ◌≤◌, ◌^◌, ◌∷◌, [], ◌++◌, ℕ, List, length, vec_len, Ok, Err, IsOk, IfOk, IfSome, IfErr, OnErr, OnOk};
 ghost use Rattle.std.specs.Io.KnownBytes.{Appends};
-ghost use Rattle.diag_can.specs.BusLine.{HasNoFeed, bus_line, ended_lines};
-ghost use Rattle.diag_can.specs.declared.frame.KnownId.{KnownId as AKnownId};
+ghost use Rattle.diag_can.specs.BusLine.{HasNoFeed, ended_lines};
 ghost use Rattle.diag_bus.specs.Bus.{AnswersLine, TookLines};
+ghost use Rattle.diag_bus.specs.Events.{line_said};
 ghost use Rattle.diag_text.specs.Bytes.{AppendsFront, Sends};
 ghost use Rattle.diag_world.specs.Block.{some_in_block};
 ghost use Rattle.diag_world.specs.Server.{quiet_of};
@@ -123,7 +123,7 @@ impl<S: Ending> Capture<S> {
         ensures flushed { OnOk result (W.flushed out.new) }
     {
         let mut rest = piece;
-        while let Some(first) = first_line(rest) {
+        while let Some(first) = first_line(self.bus.known(), rest) {
             if let Err(fault) = self.take_line(first.line, first.said, out) {
                 return Err(fault);
             }
@@ -143,7 +143,7 @@ impl<S: Ending> Capture<S> {
     ) -> Result<(), CaptureFault>
         requires room { self.old.lines + 1 < 2 ^ 64 }
         requires line { HasNoFeed bytes.now }
-        requires says { IfSome said (λ said. (known : List AKnownId) → bus_line known bytes.now ≡ Ok said) }
+        requires says { IfSome said (λ said. line_said self.old.bus.setup bytes.now ≡ Ok said) }
         ensures ok { OnOk result (Sends (W.contents out.old) (W.contents out.new)
             (GoesOn S.took (wanted S.written S.ends S.aim) self.old self.new (bytes.now ++ 10 ∷ []))) }
         ensures lines { OnOk result (self.new.lines ≡ self.old.lines + 1) }
@@ -191,7 +191,7 @@ impl<S: Ending> Capture<S> {
     fn end_line(&mut self, bytes: &[u8], said: Option<BusLine>) -> Result<(), BusFault>
         requires room { self.old.lines + 1 < 2 ^ 64 }
         requires line { HasNoFeed bytes.now }
-        requires says { IfSome said (λ said. (known : List AKnownId) → bus_line known bytes.now ≡ Ok said) }
+        requires says { IfSome said (λ said. line_said self.old.bus.setup bytes.now ≡ Ok said) }
         ensures ok { OnOk result (GoesOn S.took (wanted S.written S.ends S.aim) self.old self.new (bytes.now ++ 10 ∷ []) []) }
         ensures lines { OnOk result (self.new.lines ≡ self.old.lines + 1) }
         ensures kept { OnOk result (self.new.kept.items ≡ []) }
@@ -210,7 +210,7 @@ impl<S: Ending> Capture<S> {
     fn take_told(&mut self, line: &[u8], said: BusLine) -> Result<(), BusFault>
         requires room { self.old.lines + 1 < 2 ^ 64 }
         requires line { HasNoFeed line.now }
-        requires says { (known : List AKnownId) → bus_line known line.now ≡ Ok said }
+        requires says { line_said self.old.bus.setup line.now ≡ Ok said }
         requires none { self.old.kept.items ≡ [] }
         ensures ok { OnOk result (GoesOn S.took (wanted S.written S.ends S.aim) self.old self.new (line.now ++ 10 ∷ []) []) }
         ensures lines { OnOk result (self.new.lines ≡ self.old.lines + 1) }
@@ -351,7 +351,7 @@ fn give<S: Sink>(
     said: BusLine,
     text: &mut Vec<u8>,
 ) -> Result<(), BusFault>
-    requires { (known : List AKnownId) → bus_line known line.now ≡ Ok said }
+    requires { line_said bus.old.setup line.now ≡ Ok said }
     ensures { AnswersLine S.took S.aim S.written bus.old bus.new line.now text.old.items text.new.items result }
 {
     // (for its contract: it is the line that says this)

@@ -44,7 +44,7 @@ impl FlowLines {
         ensures { IfOk result (λ found. IfSome found (λ place. place ≤ length piece.now)) }
     {
         let mut rest = piece;
-        while let Some(first) = first_line(rest) {
+        while let Some(first) = first_line(self.known.as_slice(), rest) {
             if self.ends_flow(first.line, first.said)? {
                 return Ok(Some(piece.len() - rest.len()));
             }
@@ -58,7 +58,7 @@ impl FlowLines {
     /// Sees a piece in which flow control isn't looked for.
     pub fn pass(&mut self, piece: &[u8]) -> Result<(), AllocError> {
         let mut rest = piece;
-        while let Some(first) = first_line(rest) {
+        while let Some(first) = first_line(self.known.as_slice(), rest) {
             self.begun.clear();
             rest = first.after;
         }

@@ -4,7 +4,7 @@ use Rattle.diag_can.proofs.Lines.{no_feed_before, split_at_feed}
 use Rattle.diag_can.proofs.front.other_front.Goals as goal
 
 pub returns : goal.returns
-returns c =
+returns c known =
     let text = c.args.text.now in
     let end = c.in_ok-end.end in
     let after = drop (end + 1) text in

@@ -6,7 +6,7 @@ use Rattle.diag_can.proofs.TickFronts.{letters, ticks_line}
 use Rattle.diag_can.proofs.front.ticks_front.Goals as goal
 
 pub returns : goal.returns
-returns c =
+returns c known =
     let text = c.args.text.now in
     let rest = drop 4 text in
     let len = c.in_ok-count.len in
@@ -20,4 +20,4 @@ returns c =
     let line =
     ticks_line rest after len count (rw four at read.is) (rw four at read.fits) read.few (rw (four, ends) at c.in_ok-after.ensures.is) in
     let first = c.told.ensures in
-    rw (first.line, first.after, first.said) (subst (λ (t : List ℕ). IsFirstLine t (take (length t - length after - 1) t) after (Some (Ticks count))) (sym whole) line)
+    rw (first.line, first.after, first.said) (subst (λ (t : List ℕ). IsFirstLine known t (take (length t - length after - 1) t) after (Some (Ticks count))) (sym whole) (line known))
