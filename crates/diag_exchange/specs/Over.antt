@@ -1,5 +1,5 @@
 -- What is over.
-use Rattle.std.specs.Prelude.{ℕ, Option}
+use Rattle.std.specs.Prelude.{ℕ, Bool, true, false, Option}
 use Rattle.diag_exchange.specs.declared.happening.AskedRequest.{AskedRequest}
 use Rattle.diag_exchange.specs.declared.happening.Heard.{Heard}
 
@@ -8,3 +8,8 @@ use Rattle.diag_exchange.specs.declared.happening.Heard.{Heard}
 pub data Over : Type 0 where
   Exchange : (request : AskedRequest) (pendings : ℕ) (answer : Option Heard) → Over
   Unasked : (heard : Heard) → Over
+
+-- it is a message that no request asked
+abbrev pub is_unasked : Over → Bool
+is_unasked (Exchange request pendings answer) = false
+is_unasked (Unasked heard) = true

@@ -1,7 +1,8 @@
 //! What is over.
 
-ghost use Rattle.std.specs.Prelude.{◌≡◌, IfOk, IfSome};
+ghost use Rattle.std.specs.Prelude.{◌≡◌, true, IfOk, MatchOption};
 ghost use Rattle.diag_exchange.specs.Over as over;
+ghost use Rattle.diag_exchange.specs.Over.{is_unasked};
 ghost use Rattle.diag_exchange.specs.OverKind.{over_of};
 ghost use Rattle.diag_exchange.specs.Streaming.{told};
 
@@ -76,7 +77,7 @@ impl Over {
     /// The exchange, where it is one.
     #[inline(always)]
     pub fn into_box(self) -> Option<OpenBox>
-        ensures { IfSome result (λ own. told own ≡ self) }
+        ensures { MatchOption result (is_unasked self ≡ true) (λ own. told own ≡ self) }
     {
         match self.kept {
             Kept::Asked(own) => Some(own),
