@@ -307,9 +307,7 @@ impl Comparisons {
     {
         let mut first = None;
         for index in 0..self.testers.len() {
-            let Some(who) = setup.who(index) else {
-                unreachable!()
-            };
+            let who = setup.who(index);
             first = earlier(first, who, self.testers[index].difference());
         }
         first
@@ -322,9 +320,7 @@ impl Comparisons {
         ensures err { OnErr result (Disagrees (IsLack setup.now self.now)) }
     {
         for index in 0..self.testers.len() {
-            let Some(who) = setup.who(index) else {
-                unreachable!()
-            };
+            let who = setup.who(index);
             let own = &self.testers[index];
             if let Some(next) = own.lack() {
                 return Ok(Verdict::Lacks {

@@ -254,9 +254,7 @@ impl Node {
             (functional_to_all setup.now id (length setup.now.testers) bytes.now) result }
     {
         for index in 0..setup.testers() {
-            let Some(who) = setup.who(index) else {
-                unreachable!()
-            };
+            let who = setup.who(index);
             self.give_functional_to(setup, who, id, bytes, sink)?;
         }
         Ok(())
@@ -305,9 +303,7 @@ impl Node {
             → SentIn self.old self.new span) }
     {
         for index in 0..setup.testers() {
-            let Some(who) = setup.who(index) else {
-                unreachable!()
-            };
+            let who = setup.who(index);
             self.give(who, event, sink)?;
         }
         Ok(())

@@ -78,9 +78,7 @@ fn owner_of(setup: &Setup, id: CanId) -> Owner
     let _ = setup.raw();
     let mut owner = Owner::Nobody;
     for index in 0..setup.testers() {
-        let Some(who) = setup.who(index) else {
-            unreachable!()
-        };
+        let who = setup.who(index);
         let ids = setup.ids(who);
         if ids.request == id {
             owner = Owner::Tester(who);

@@ -54,9 +54,7 @@ fn responder_of(setup: &Setup, id: CanId) -> Option<TesterId>
     let _ = setup.raw();
     let mut responder = None;
     for index in 0..setup.testers() {
-        let Some(who) = setup.who(index) else {
-            unreachable!()
-        };
+        let who = setup.who(index);
         if setup.ids(who).response == id {
             responder = Some(who);
         }

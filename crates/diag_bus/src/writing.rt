@@ -110,9 +110,7 @@ pub fn gather(setup: &Setup, drawn: &[SentFrames], batch: &mut Vec<Drawn>) -> Re
         ≡ batch.old.items ++ gathered 1 (map (λ f. f.items) drawn.now)) }
 {
     for index in 0..setup.testers() {
-        let Some(who) = setup.who(index) else {
-            unreachable!()
-        };
+        let who = setup.who(index);
         add_frames(batch, who, &drawn[index])?;
     }
     Ok(())
@@ -124,9 +122,7 @@ pub(crate) fn writers_of(alloc: Global, setup: &Setup) -> Result<Vec<LineWriter>
 {
     let mut writers = Vec::new(alloc);
     for index in 0..setup.testers() {
-        let Some(who) = setup.who(index) else {
-            unreachable!()
-        };
+        let who = setup.who(index);
         let (name, flags) = (setup.name(who), setup.flags(who));
         let writer = LineWriter::new(alloc, name, setup.ids(who).response, flags)?;
         writers.push(writer)?;

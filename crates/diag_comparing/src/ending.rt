@@ -37,9 +37,7 @@ fn end_each(
 {
     let mut counts = Vec::new(alloc);
     for index in 0..testers.len() {
-        let Some(who) = setup.who(index) else {
-            unreachable!()
-        };
+        let who = setup.who(index);
         let own = testers[index].end(alloc, who, judged)?;
         counts.push(own)?;
     }
@@ -77,9 +75,7 @@ fn add_counts(text: &mut Vec<u8>, setup: &Setup, counts: &[Counts]) -> Result<()
     ensures { OnOk result (text.new.items ≡ text.old.items ++ count_lines setup.now 1 counts.now) }
 {
     for index in 0..counts.len() {
-        let Some(who) = setup.who(index) else {
-            unreachable!()
-        };
+        let who = setup.who(index);
         add_count(text, setup.name(who), counts[index])?;
     }
     Ok(())

@@ -187,9 +187,7 @@ fn take_each(
     let first = range.first.min(end);
     let mut left = Range::none();
     for index in first..end {
-        let Some(who) = setup.who(index) else {
-            unreachable!()
-        };
+        let who = setup.who(index);
         let frame = bytes_to(sent, who);
         testers[index].take_line(setup, who, at, span, frame, judged)?;
         left = left_with(left, index, &testers[index]);
@@ -254,9 +252,7 @@ impl ExchangeLines {
     {
         let mut testers = Vec::new(alloc);
         for index in 0..setup.testers() {
-            let Some(who) = setup.who(index) else {
-                unreachable!()
-            };
+            let who = setup.who(index);
             testers.push(Tester::new(alloc, unit_side(setup, who)))?;
         }
         let responses = ResponseIds::new(alloc, setup)?;

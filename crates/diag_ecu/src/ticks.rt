@@ -40,9 +40,7 @@ impl Ecu {
         ensures { self.new ≡ elapse_each self.old (length setup.now.testers) count }
     {
         for index in 0..setup.testers() {
-            let Some(who) = setup.who(index) else {
-                unreachable!()
-            };
+            let who = setup.who(index);
             self.ticks(who, count);
         }
     }

@@ -61,9 +61,7 @@ fn first_takers(
 {
     let mut takers = Vec::new(alloc);
     for index in 0..setup.testers() {
-        let Some(who) = setup.who(index) else {
-            unreachable!()
-        };
+        let who = setup.who(index);
         takers.push(LineTaker {
             lines: LogLines {
                 who,

@@ -74,9 +74,7 @@ fn unwritten(alloc: Global, setup: &Setup) -> Result<Vec<ReplyLines>, AllocError
 {
     let mut lines = Vec::new(alloc);
     for index in 0..setup.testers() {
-        let Some(who) = setup.who(index) else {
-            unreachable!()
-        };
+        let who = setup.who(index);
         let tester = ReplyLines::new(alloc, setup, who)?;
         lines.push(tester)?;
     }

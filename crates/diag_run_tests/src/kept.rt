@@ -14,9 +14,10 @@ use std::alloc::{AllocError, Global};
 
 /// The events of the log of the tester at an index.
 fn events_of(alloc: Global, setup: &Setup, index: usize, log: &str) -> Result<Log, Trouble> {
-    let Some(who) = setup.who(index) else {
+    if index >= setup.testers() {
         return Err(Trouble::Wrong);
-    };
+    }
+    let who = setup.who(index);
     match read_log(alloc, log.as_bytes(), &setup.ids(who), Timing::Lines) {
         Ok(events) => Ok(events),
         Err(LogFault::Memory) => Err(Trouble::Memory),

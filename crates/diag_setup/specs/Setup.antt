@@ -335,10 +335,6 @@ setup_or_fault (Some fault) raw = Err fault
 abbrev pub checked : RawSetup → Result RawSetup SetupFault
 checked raw = setup_or_fault (fault_of raw) raw
 
--- the tester at an index from 0, by its number
-abbrev pub who_at : RawSetup → ℕ → Option ℕ
-who_at setup i = if nat_lt i (length setup.testers) then Some (i + 1) else None
-
 -- what stands for the tester of a number that has none
 abbrev pub nobody : RawTester
 nobody = record {

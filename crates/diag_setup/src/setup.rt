@@ -1,9 +1,9 @@
 //! A setup that passed all tests.
 
-ghost use Rattle.std.specs.Prelude.{IsTrue, IsSome, IfSome, IfOk, ◌≡◌, ◌≤◌, ◌-◌, length, Some, slice_get};
+ghost use Rattle.std.specs.Prelude.{IsTrue, IsSome, IfSome, IfOk, ◌≡◌, ◌<◌, ◌≤◌, ◌+◌, ◌-◌, length, Some, slice_get};
 ghost use Rattle.std.specs.List.{All, flat_map};
 ghost use Rattle.diag_pdu.specs.Length.{length_of};
-ghost use Rattle.diag_setup.specs.Setup.{IsSetup, checked, did_id, dtc_code, routine_id, level_sub, who_at, name_of, ids_of, link_ids, known_ids, read_ids, tester_of, tx_dl_of, framing_of, link_of, is_fd_of, flags_of, values_of, id_by};
+ghost use Rattle.diag_setup.specs.Setup.{IsSetup, checked, did_id, dtc_code, routine_id, level_sub, name_of, ids_of, link_ids, known_ids, read_ids, tester_of, tx_dl_of, framing_of, link_of, is_fd_of, flags_of, values_of, id_by};
 ghost use Rattle.diag_setup.specs.Rows.{is_rising};
 ghost use Rattle.diag_setup.specs.Fits.{IdFits, TesterFits, DidFits, DtcFits, RoutineFits, LevelFits, AnswerFits, NumbersFit};
 
@@ -81,14 +81,13 @@ impl Setup {
     }
 
     /// The tester at an index from 0.
-    pub fn who(&self, i: usize) -> Option<TesterId>
-        ensures { result ≡ who_at self.now i }
+    pub fn who(&self, index: usize) -> TesterId
+        requires { index < length self.now.testers }
+        ensures { result ≡ index + 1 }
     {
-        if i < self.testers() {
-            TesterId::new(i as u8 + 1)
-        } else {
-            None
-        }
+        // (for its contract: they are at most eight)
+        let _ = self.testers();
+        TesterId::at(index)
     }
 
     /// A tester's name.

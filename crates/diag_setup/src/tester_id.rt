@@ -33,6 +33,16 @@ impl TesterId {
         }
     }
 
+    /// The tester at an index in a table of all testers, from 0.
+    pub(crate) fn at(index: usize) -> TesterId
+        requires { index < 8 }
+        ensures { result ≡ index + 1 }
+    {
+        TesterId {
+            number: index as u8 + 1,
+        }
+    }
+
     /// The number, 1 to 8.
     pub fn number(&self) -> u8
         ensures same { result ≡ self.now }

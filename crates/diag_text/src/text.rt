@@ -218,9 +218,7 @@ fn lines_alone(
     ensures { IfOk result (λ parts. concat (map (λ part. part.items) parts.items)
         ≡ part_lines setup.now (index + 1) sent.now part) }
 {
-    let Some(who) = setup.who(index) else {
-        unreachable!()
-    };
+    let who = setup.who(index);
     let lines = tester_lines(alloc, setup, who, sent, part)?;
     one_part(alloc, lines)
 }
@@ -295,9 +293,7 @@ fn lines_in_turn(
 {
     let mut parts = Vec::new(alloc);
     for (index, frames) in sent.iter().enumerate() {
-        let Some(who) = setup.who(index) else {
-            unreachable!()
-        };
+        let who = setup.who(index);
         let part = Part {
             from: 0,
             end: frames.len(),

@@ -14,10 +14,10 @@ use std::alloc::Global;
 
 /// The settings of the first tester's link.
 fn settings(setup: &Setup) -> Result<LinkSetup, Trouble> {
-    match setup.who(0) {
-        Some(who) => Ok(setup.link(who)),
-        None => Err(Trouble::Wrong),
+    if setup.testers() == 0 {
+        return Err(Trouble::Wrong);
     }
+    Ok(setup.link(setup.who(0)))
 }
 
 /// The settings of the first tester's link in the stored setup.

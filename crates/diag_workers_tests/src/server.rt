@@ -50,9 +50,7 @@ fn take_frame(
     ensures { length server.new.ports ≡ length server.old.ports }
 {
     for index in 0..setup.testers() {
-        let Some(who) = setup.who(index) else {
-            unreachable!()
-        };
+        let who = setup.who(index);
         if let Some(event) = event_for(&setup.ids(who), frame) {
             take(server, who, &event, out)?;
         }
@@ -71,9 +69,7 @@ fn pass(
     ensures { length server.new.ports ≡ length server.old.ports }
 {
     for index in 0..setup.testers() {
-        let Some(who) = setup.who(index) else {
-            unreachable!()
-        };
+        let who = setup.who(index);
         take(server, who, &LentEvent::ticks(count), out)?;
     }
     Ok(())

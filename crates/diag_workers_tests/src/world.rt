@@ -49,9 +49,10 @@ fn give_line(
     requires { length world.old.sent ≡ length setup.now.testers }
     ensures { length world.new.sent ≡ length world.old.sent }
 {
-    let Some(who) = setup.who(index) else {
+    if index >= setup.testers() {
         return Err(Trouble::Wrong);
-    };
+    }
+    let who = setup.who(index);
     let log = read_log(alloc, line, &setup.ids(who), Timing::Lines)?;
     if log.len() != 1 {
         return Err(Trouble::Wrong);
@@ -73,9 +74,10 @@ fn give_all(alloc: Global, world: &mut World, setup: &Setup) -> Result<(), Troub
 fn add_frames(text: &mut Vec<u8>, world: &World, setup: &Setup, index: usize) -> Result<(), Trouble>
     requires { length world.now.sent ≡ length setup.now.testers }
 {
-    let Some(who) = setup.who(index) else {
+    if index >= setup.testers() {
         return Err(Trouble::Wrong);
-    };
+    }
+    let who = setup.who(index);
     let sent = world.sent(who);
     for index in 0..sent.len() {
         let frame = sent.get(index);

@@ -1,9 +1,9 @@
 -- How a world goes on with one event more.
-use Rattle.std.proofs.Common.{◌≡◌, ◌≢◌, ℕ, zero, suc, ◌+◌, Bool, true, false, cond, Some, None, List, [], ◌∷◌, ◌++◌, length, map, refl, ap, ◌∙◌, arith, inl, inr}
+use Rattle.std.proofs.Common.{◌≡◌, ◌≢◌, ℕ, zero, suc, ◌+◌, false, cond, Some, None, List, [], ◌∷◌, ◌++◌, length, map, refl, ap, ◌∙◌, arith, inl, inr}
 use Rattle.std.proofs.lemmas.List.{append-nil}
 use Rattle.std.proofs.lemmas.Bool.{eq-eqb}
 use Rattle.std.proofs.lemmas.Bool.Decides.{nat_tests}
-use Rattle.std.specs.Prelude.{◌==◌, ◌⊎◌, nat_lt, slice_get, slice_set}
+use Rattle.std.specs.Prelude.{◌==◌, ◌⊎◌, slice_get, slice_set}
 use Rattle.diag_can.specs.Event.{Event}
 use Rattle.diag_pdu.specs.declared.step.Step.{Step}
 use Rattle.diag_desk.specs.declared.entry.Entry.{Entry}
@@ -11,8 +11,6 @@ use Rattle.diag_desk.specs.Entries.{asked_by}
 use Rattle.diag_desk.specs.Legal.{after_step}
 use Rattle.diag_desk.specs.Timed.{own_timed, timed, timed_entry}
 use Rattle.diag_ecu.specs.State.{State}
-use Rattle.diag_setup.specs.Setup.{who_at}
-use Rattle.diag_setup.specs.declared.raw.RawSetup.{RawSetup}
 use Rattle.diag_world.specs.Weaving.{items_of, all_by}
 use Rattle.diag_world.proofs.Interleavings.{items_of-append}
 
@@ -72,14 +70,6 @@ items_other M t u e away = items_of-append M ((t, e) ∷ []) u ∙ (ap (λ b. it
 
 pub other_place : (i j who : ℕ) → who ≡ i + 1 → j ≢ i → (who == (j + 1)) ≡ false
 other_place i j who is apart = grind (arith, nat_tests)
-
--- the tester at an index is that of the next number
-pub who_found : (setup : RawSetup) (i who : ℕ) → Some who ≡ who_at setup i → who ≡ i + 1
-who_found setup i who h = pick (nat_lt i (length setup.testers)) h
-  where
-    pick : (b : Bool) → Some who ≡ cond b (Some (i + 1)) None → who ≡ i + 1
-    pick true h = cc
-    pick false h = cc
 
 -- what stands in a list after one more item
 pub push_cases : {X : Type 0} (xs : List X) (j : ℕ) (v x : X) → slice_get (xs ++ v ∷ []) j ≡ Some x → ((j ≡ length xs) × (x ≡ v)) ⊎ (slice_get xs j ≡ Some x)

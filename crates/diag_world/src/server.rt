@@ -93,9 +93,7 @@ impl Server {
         let ecu = Ecu::new(alloc, setup)?;
         let mut ports = Vec::with_capacity(alloc, setup.testers())?;
         for index in 0..setup.testers() {
-            let Some(who) = setup.who(index) else {
-                unreachable!()
-            };
+            let who = setup.who(index);
             ports.push_reserved(LazyPort::new(alloc, setup.link(who), Pace::of(setup)));
         }
         Ok(Server {

@@ -108,9 +108,7 @@ fn take_round<T: TakeEvents>(
 {
     for (index, log) in logs.iter().enumerate() {
         if round < log.len() {
-            let Some(who) = setup.who(index) else {
-                unreachable!()
-            };
+            let who = setup.who(index);
             taker.take_event(who, &log.get(round))?;
         }
     }

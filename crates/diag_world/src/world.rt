@@ -64,9 +64,7 @@ impl World {
         let desk = Desk::new(alloc, setup)?;
         let mut channels = Vec::with_capacity(alloc, setup.testers())?;
         for index in 0..setup.testers() {
-            let Some(who) = setup.who(index) else {
-                unreachable!()
-            };
+            let who = setup.who(index);
             channels.push_reserved(Channel::new(alloc, setup.link(who), Pace::of(setup)));
         }
         Ok(World { desk, channels })

@@ -25,9 +25,7 @@ impl FlowLines {
     pub fn new(alloc: Global, setup: &Setup) -> Result<FlowLines, AllocError> {
         let mut requests = Vec::new(alloc);
         for index in 0..setup.testers() {
-            let Some(who) = setup.who(index) else {
-                unreachable!()
-            };
+            let who = setup.who(index);
             requests.push(setup.ids(who).request)?;
         }
         let known = setup.known_ids(alloc)?;

@@ -82,9 +82,7 @@ impl Node {
             → TookTime self.old.server self.new.server span }
     {
         for index in 0..setup.testers() {
-            let Some(who) = setup.who(index) else {
-                unreachable!()
-            };
+            let who = setup.who(index);
             self.give(who, event)?;
         }
         Ok(())
@@ -178,9 +176,7 @@ impl Node {
             (functional_to_all setup.now id (length setup.now.testers) bytes.now) result }
     {
         for index in 0..setup.testers() {
-            let Some(who) = setup.who(index) else {
-                unreachable!()
-            };
+            let who = setup.who(index);
             self.give_functional_to(setup, who, id, bytes)?;
         }
         Ok(())

@@ -67,7 +67,10 @@ pub(crate) fn events_of(
     index: usize,
     lines: &[&str],
 ) -> Result<Log, Trouble> {
-    let who = setup.who(index).ok_or(Trouble::Wrong)?;
+    if index >= setup.testers() {
+        return Err(Trouble::Wrong);
+    }
+    let who = setup.who(index);
     let text = text_of(alloc, lines)?;
     let log = read_log(alloc, text.as_slice(), &setup.ids(who), Timing::Lines)?;
     Ok(log)

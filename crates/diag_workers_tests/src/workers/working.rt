@@ -39,7 +39,10 @@ fn worked<R: Wait>(
     index: usize,
     lines: &[&str],
 ) -> Result<WorkerRecord, Trouble> {
-    let who = setup.who(index).ok_or(Trouble::Wrong)?;
+    if index >= setup.testers() {
+        return Err(Trouble::Wrong);
+    }
+    let who = setup.who(index);
     let log = events_of(alloc, setup, index, lines)?;
     Ok(at_lock(rt, alloc, setup, desk, who, &log)?)
 }
@@ -52,7 +55,10 @@ fn is_whole(
     index: usize,
     record: &WorkerRecord,
 ) -> Result<bool, Trouble> {
-    let who = setup.who(index).ok_or(Trouble::Wrong)?;
+    if index >= setup.testers() {
+        return Err(Trouble::Wrong);
+    }
+    let who = setup.who(index);
     is_replayed(alloc, setup, journal)?;
     let (count, framed) = if index == 0 {
         (2, has_first_frames(&record.sent))

@@ -2,7 +2,6 @@ use Rattle.std.proofs.Common.{◌≡◌, ◌≢◌, ◌<◌, ◌+◌, ap, arith,
 use Rattle.std.proofs.lemmas.Bool.{eqb-false, eqb-true}
 use Rattle.diag_can.specs.declared.frame.Ids.{Ids}
 use Rattle.diag_setup.specs.Setup.{ids_of}
-use Rattle.diag_world.proofs.Worlds.{who_found}
 use Rattle.diag_bus.specs.RequestIds.{IsOwner}
 use Rattle.diag_bus.specs.declared.request_ids.Owner.{Owner}
 use Rattle.diag_bus.specs.declared.request_ids.Owner.TheVariants.{Tester}
@@ -18,7 +17,7 @@ loop-index-preserved c =
     let ids = c.ids-ids.result in
     let well = c.raw.ensures.checked.0 in
     let within : n < length setup.testers = omega (arith, c.loop-index-test.true, c.testers-index-end.ensures.same) in
-    let who = who_found setup n c.in-Some.who c.in-Some.ensures in
+    let who = c.who-who.ensures in
     let is : ids ≡ ids_of setup (n + 1) = c.ids-ids.ensures ∙ ap (λ t. ids_of setup t) who in
     let request : ids.request ≡ (ids_of setup (n + 1)).request = ap (λ (i : Ids). i.request) is in
     let functional : ids.functional ≡ (ids_of setup (n + 1)).functional = ap (λ (i : Ids). i.functional) is in

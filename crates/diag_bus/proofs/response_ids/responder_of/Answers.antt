@@ -2,7 +2,6 @@ use Rattle.std.proofs.Common.{◌≡◌, ◌≢◌, ◌<◌, ◌+◌, ℕ, ap, a
 use Rattle.std.proofs.lemmas.Bool.{eqb-false, eqb-true}
 use Rattle.diag_can.specs.declared.frame.Ids.{Ids}
 use Rattle.diag_setup.specs.Setup.{ids_of}
-use Rattle.diag_world.proofs.Worlds.{who_found}
 use Rattle.diag_bus.specs.ResponseIds.{IsResponder}
 use Rattle.diag_bus.proofs.Responders.{responder_found, responder_none, responder_stays}
 use Rattle.diag_bus.proofs.response_ids.responder_of.Goals.{then-eq, else-eq}
@@ -18,7 +17,7 @@ loop-index-preserved c =
     let n = c.loop-index.index in
     let well = c.raw.ensures.checked.0 in
     let within : n < length setup.testers = omega (arith, c.loop-index-test.true, c.testers-index-end.ensures.same) in
-    let who = who_found setup n c.in-Some.who c.in-Some.ensures in
+    let who = c.who-who.ensures in
     let response : c.ids.result.response ≡ (ids_of setup (n + 1)).response =
     ap (λ (ids : Ids). ids.response) c.ids.ensures ∙ ap (λ t. (ids_of setup t).response) who in
     elim c.if-eq.branch [

@@ -1,4 +1,4 @@
-use Rattle.std.proofs.Common.{◌≡◌, ◌+◌, ◌<◌, ℕ, length, refl, ap, ◌∙◌, arith}
+use Rattle.std.proofs.Common.{◌+◌, ◌<◌, length, ap, ◌∙◌, arith}
 use Rattle.hex.specs.Hex.{is_hex_digit}
 use Rattle.diag_can.proofs.Fronts.{in_line, is_usual, said_line}
 use Rattle.diag_can.proofs.front.wide_front.Goals as goal

@@ -2,7 +2,6 @@ use Rattle.std.proofs.Common.{◌≡◌, ◌<◌, ◌+◌, ◌++◌, Some, List,
 use Rattle.std.proofs.lemmas.Option.{slice_get-get_or}
 use Rattle.std.specs.Prelude.{slice_get}
 use Rattle.diag_setup.specs.Setup.{name_of}
-use Rattle.diag_world.proofs.Worlds.{who_found}
 use Rattle.diag_judge.specs.declared.tester.Counts.{Counts}
 use Rattle.diag_comparing.specs.Keeping.{count_lines, count_text}
 use Rattle.diag_comparing.proofs.Ends.{count_more}
@@ -18,8 +17,8 @@ loop-index-preserved c =
     let own : Counts = get_or counts i none in
     let within : i < length counts = omega (arith, c.loop-index-test.true) in
     let here : slice_get counts i ≡ Some own = slice_get-get_or counts i none within in
-    let who = who_found setup i c.in-Some.who c.in-Some.ensures in
-    let place : c.in-Some.who ≡ 1 + i = omega (arith, who) in
+    let who = c.who-who.ensures in
+    let place : c.who-who.result ≡ 1 + i = omega (arith, who) in
     let next : suc i ≡ i + 1 = omega arith in
     let names : c.name.result.now ≡ name_of setup (1 + i) = c.name.ensures ∙ ap (name_of setup) place in
     c.in_ok-add_count.ensures

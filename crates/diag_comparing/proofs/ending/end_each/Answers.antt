@@ -7,7 +7,6 @@ use Rattle.diag_pdu.specs.Cut.{counted_from}
 use Rattle.diag_compare.specs.Compare.{open_for}
 use Rattle.diag_compare.specs.Expects.{expects}
 use Rattle.diag_comparing.specs.Keeping.{judged_pair, tester_counts}
-use Rattle.diag_world.proofs.Worlds.{who_found}
 use Rattle.diag_judge.specs.Judging.{EndsJudged}
 use Rattle.diag_judge.specs.declared.tester.Tester.{Tester}
 use Rattle.diag_comparing.proofs.Ends.{end_counted, end_judged}
@@ -28,7 +27,7 @@ loop-index-preserved c =
     let own : Tester = c.index-testers-index.result in
     let within : i < length testers = omega (arith, c.loop-index-test.true) in
     let here : slice_get testers i ≡ Some own = slice_get_read testers (length testers) i own refl within c.index-testers-index.is in
-    let who = who_found setup i c.in-Some.who c.in-Some.ensures in
+    let who = c.who-who.ensures in
     let judged = subst (λ t. EndsJudged own t c.loop-index.judged.items c.end.new.judged.items) who c.in_ok-own.ensures.judged in
     record {
       judged = λ lines h. end_judged setup lines own i c.args.judged.now.items c.loop-index.judged.items c.end.new.judged.items (h i own here)

@@ -5,7 +5,6 @@ use Rattle.std.proofs.lemmas.Option.{slice_get_read}
 use Rattle.std.specs.List.{flat_map}
 use Rattle.std.specs.Prelude.{◌++◌, map, option_copied, slice_get, slice_set}
 use Rattle.diag_setup.specs.Setup.{ids_of}
-use Rattle.diag_world.proofs.Worlds.{who_found}
 use Rattle.diag_bus.specs.Events.{frame_said}
 use Rattle.diag_bus.specs.RequestIds.{IsWithin}
 use Rattle.diag_judge.specs.Judging.{JudgesLine}
@@ -53,11 +52,11 @@ loop-index-preserved c =
     let inside : IsOutside c.args.range i → ⊥ = λ outside. elim outside [ inl less ↦ omega (arith, less, c.loop-index.invariant.from, c.min-first.ensures, c.loop-index-test.true, c.min-end.ensures) | inr more ↦ omega (arith, more, c.loop-index-test.true, c.min-end.ensures) ] in
     let within : i < length now = omega (arith, c.loop-index-test.true, c.loop-index.invariant.many, c.min-end.ensures, c.len.ensures) in
     let here : slice_get now i ≡ Some own = slice_get_read now (length now) i own refl within c.index_mut.ensures.value in
-    let who = who_found setup i c.in-Some.who c.in-Some.ensures in
+    let who = c.who-who.ensures in
     let bytes : Option (List ℕ) = option_copied c.bytes_to-frame.result in
-    let is_within : IsWithin (length setup.testers) c.in-Some.who = (omega (arith, who), omega (arith, who, within, c.requires.many, c.loop-index.invariant.many)) in
+    let is_within : IsWithin (length setup.testers) c.who-who.result = (omega (arith, who), omega (arith, who, within, c.requires.many, c.loop-index.invariant.many)) in
     let frame : bytes ≡ bytes_with (ids_of setup (i + 1)).response (frame_said said) =
-    c.bytes_to-frame.ensures ∙ (c.requires.sent c.in-Some.who is_within ∙ ap (λ t. bytes_with (ids_of setup t).response (frame_said said)) who) in
+    c.bytes_to-frame.ensures ∙ (c.requires.sent c.who-who.result is_within ∙ ap (λ t. bytes_with (ids_of setup t).response (frame_said said)) who) in
     let took : JudgesLine setup c.args.at (i + 1) own new c.loop-index.judged.items c.take_line.new.judged.items c.args.span bytes =
     subst (λ t. JudgesLine setup c.args.at t own new c.loop-index.judged.items c.take_line.new.judged.items c.args.span bytes) who c.in_ok-take_line.ensures.judges in
     let read : Tester = c.index.result.now in

@@ -1,9 +1,8 @@
-use Rattle.std.proofs.Common.{◌≡◌, ◌≤◌, ◌<◌, ◌+◌, true, false, length, ap, sym, ◌∙◌, arith}
+use Rattle.std.proofs.Common.{◌≡◌, ◌≤◌, ◌+◌, true, false, length, ap, sym, ◌∙◌, arith}
 use Rattle.std.proofs.lemmas.Bool.Decides.{nat_tests}
 use Rattle.std.specs.List.{list_all}
 use Rattle.std.specs.Prelude.{◌==◌}
 use Rattle.diag_pdu.specs.Cut.{counted_from}
-use Rattle.diag_world.proofs.Worlds.{who_found}
 use Rattle.diag_bus.specs.Verdict.{recorded}
 use Rattle.diag_text.specs.Agreed.{has_none}
 use Rattle.diag_text.proofs.Nothing.{all_more, not_all}
@@ -13,7 +12,7 @@ pub returns-then-recorded-gt0 : goal.returns-then-recorded-gt0
 returns-then-recorded-gt0 c = λ lines h.
     let i = c.loop-index.index in
     let setup = c.args.setup.now in
-    let who = who_found setup i c.in-Some.who c.in-Some.ensures in
+    let who = c.who-who.ensures in
     let within : i + 1 ≤ length setup.testers = omega (arith, c.loop-index-test.true, c.testers-index-end.ensures.same) in
     let count : c.recorded.result ≡ length (recorded setup lines (i + 1)) =
     c.recorded.ensures setup lines h (omega (arith, who, within)) ∙ ap (λ t. length (recorded setup lines t)) who in
@@ -24,7 +23,7 @@ pub loop-index-preserved : goal.loop-index-preserved
 loop-index-preserved c = λ lines h.
     let i = c.loop-index.index in
     let setup = c.args.setup.now in
-    let who = who_found setup i c.in-Some.who c.in-Some.ensures in
+    let who = c.who-who.ensures in
     let within : i + 1 ≤ length setup.testers = omega (arith, c.loop-index-test.true, c.testers-index-end.ensures.same) in
     let count : c.recorded.result ≡ length (recorded setup lines (i + 1)) =
     c.recorded.ensures setup lines h (omega (arith, who, within)) ∙ ap (λ t. length (recorded setup lines t)) who in

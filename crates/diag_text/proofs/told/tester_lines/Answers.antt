@@ -4,7 +4,6 @@ use Rattle.std.proofs.lemmas.List.{append-nil}
 use Rattle.std.specs.List.{flat_map}
 use Rattle.diag_pdu.specs.Cut.{counted_from}
 use Rattle.diag_setup.specs.Setup.{name_of}
-use Rattle.diag_world.proofs.Worlds.{who_found}
 use Rattle.diag_bus.specs.Verdict.{agreed_line, recorded}
 use Rattle.diag_world.proofs.Waiting.{counted_more}
 use Rattle.diag_text.proofs.told.tester_lines.Goals as goal
@@ -20,7 +19,7 @@ pub loop-index-preserved : goal.loop-index-preserved
 loop-index-preserved c = λ lines h.
     let i = c.loop-index.index in
     let setup = c.args.setup.now in
-    let who = who_found setup i c.in-Some.who c.in-Some.ensures in
+    let who = c.who-who.ensures in
     let within : i + 1 ≤ length setup.testers = omega (arith, c.loop-index-test.true, c.testers-index-end.ensures.same) in
     let name : c.name.result.now ≡ name_of setup (i + 1) = c.name.ensures ∙ ap (name_of setup) who in
     let count : c.recorded.result ≡ length (recorded setup lines (i + 1)) =

@@ -9,14 +9,13 @@ use Rattle.diag_setup.specs.declared.raw.RawSetup.{RawSetup}
 use Rattle.diag_world.specs.Weaving.{first_of_each, steps_of}
 use Rattle.diag_world.proofs.Headlines.{steps_grow}
 use Rattle.diag_world.proofs.Rounds.{round_take, round_gives, round_ends, round_splits}
-use Rattle.diag_world.proofs.Worlds.{who_found}
-use Rattle.diag_world.proofs.taking.take_round.Goals.{then-round-len+in-Some+in_ok-take_event, else-round-len}
+use Rattle.diag_world.proofs.taking.take_round.Goals.{then-round-len+in_ok-take_event, else-round-len}
 use Rattle.diag_world.proofs.taking.take_round.Goals as goal
 
 pub take_event-requires : goal.take_event-requires
 take_event-requires g c =
     let begun = c.requires.begun in
-    let who = who_found c.args.setup.now c.loop-index.index c.in-Some.who c.in-Some.ensures in
+    let who = c.who-who.ensures in
     let F = first_of_each 1 (take c.loop-index.index (map (drop c.args.round) (map (λ log. log.items) c.args.logs.now))) in
     record {
       in_setup = (
@@ -40,12 +39,12 @@ loop-index-preserved g c = λ terms M h.
     let more = round_take events r p log.items (slice_get-map (λ l. l.items) logs p ∙ ap (option_map (λ l. l.items)) found) in
     let F = first_of_each 1 (take p (map (drop r) events)) in
     elim c.if-round-len.branch [
-      | then-round-len+in-Some+in_ok-take_event w ↦ (
+      | then-round-len+in_ok-take_event w ↦ (
           let e = w.get.result in
-          let who = w.in-Some.who in
+          let who = w.who-who.result in
           let here : slice_get log.items r ≡ Some e = w.get.ensures in
           let grown = more ∙ ap (λ x. F ++ x) (round_gives (p + 1) log.items r e here
-          ∙ ap (λ n. (n, e) ∷ []) (sym (who_found c.args.setup.now p who w.in-Some.ensures))) in
+          ∙ ap (λ n. (n, e) ∷ []) (sym w.who-who.ensures)) in
           subst (λ x. g.T.TakeEvents.took x terms (M ++ first_of_each 1 (take (p + 1) (map (drop r) events)))) (sym w.taker-is)
           (subst (λ x. g.T.TakeEvents.took w.take_event.new.self terms x) (append_assoc M F ((who, e) ∷ []) ∙ ap (λ x. M ++ x) (sym grown))
           (w.in_ok-take_event.ensures.took terms (M ++ F) stands)))
@@ -67,13 +66,13 @@ returns-in_err-take_event-clause-full g c = λ is terms M h.
     let r = c.args.round in
     let log = c.index-logs-index.result in
     let e = c.get.result in
-    let who = c.in-Some.who in
+    let who = c.who-who.result in
     let F = first_of_each 1 (take p (map (drop r) events)) in
     let found : slice_get logs p ≡ Some log = slice_get_read logs (length logs) p log refl c.loop-index-test.true c.index-logs-index.is in
     let here : slice_get log.items r ≡ Some e = c.get.ensures in
     let split = round_splits events r p log.items e (slice_get-map (λ l. l.items) logs p ∙ ap (option_map (λ l. l.items)) found) here in
     let taken = (M ++ F) ++ (who, e) ∷ [] in
-    let all = ap (λ x. M ++ x) (split.1 ∙ ap (λ t. (F ++ (t, e) ∷ []) ++ split.0) (sym (who_found c.args.setup.now p who c.in-Some.ensures)))
+    let all = ap (λ x. M ++ x) (split.1 ∙ ap (λ t. (F ++ (t, e) ∷ []) ++ split.0) (sym c.who-who.ensures))
     ∙ (sym (append_assoc M (F ++ (who, e) ∷ []) split.0) ∙ ap (λ x. x ++ split.0) (sym (append_assoc M F ((who, e) ∷ [])))) in
     omega (
       arith,

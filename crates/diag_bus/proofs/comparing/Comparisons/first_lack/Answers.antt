@@ -2,25 +2,24 @@ use Rattle.std.proofs.Common.{◌≡◌, ◌<◌, ℕ, List, Some, length, ap, r
 use Rattle.std.proofs.lemmas.Option.{slice_get_read}
 use Rattle.std.specs.Prelude.{option_copied, slice_get}
 use Rattle.diag_port.proofs.Within.{none_of}
-use Rattle.diag_world.proofs.Worlds.{who_found}
 use Rattle.diag_bus.specs.declared.comparing.Comparison.{Comparison}
 use Rattle.diag_bus.proofs.Verdicts.{HasLack, lack_found, lack_none, lacks_apart, on_err_of}
 use Rattle.diag_bus.specs.declared.verdict.Verdict.TheVariants.{Lacks}
 use Rattle.diag_bus.proofs.comparing.Comparisons.first_lack.Goals as goal
 
-pub returns-in-Some-lack-clause-ok : goal.returns-in-Some-lack-clause-ok
-returns-in-Some-lack-clause-ok c =
+pub returns-in-Some-clause-ok : goal.returns-in-Some-clause-ok
+returns-in-Some-clause-ok c =
     let i = c.loop-index.index in
     let setup = c.args.setup.now in
     let items = c.args.self.now.testers.items in
     let own : Comparison = c.index-own.result.now in
     let within : i < length items = omega (arith, c.loop-index-test.true, c.len-index-end.ensures) in
     let here : slice_get items i ≡ Some own = slice_get_read items (length items) i own refl within c.index-own.ensures in
-    let next : List ℕ = c.in-Some-lack.next.now in
-    let has : HasLack own (Some next) = λ r e same none. sym (ap option_copied c.in-Some-lack.is) ∙ c.lack.ensures r e same none in
+    let next : List ℕ = c.in-Some.next.now in
+    let has : HasLack own (Some next) = λ r e same none. sym (ap option_copied c.in-Some.is) ∙ c.lack.ensures r e same none in
     rw c.in_ok-try_copy.ensures.value
-    (lack_found setup c.args.self.now i own here (omega (arith, within, c.requires)) c.in-Some.who next
-    (who_found setup i c.in-Some.who c.in-Some.ensures) has c.loop-index.invariant)
+    (lack_found setup c.args.self.now i own here (omega (arith, within, c.requires)) c.who-who.result next
+    c.who-who.ensures has c.loop-index.invariant)
 
 pub returns-in_err-try_copy-clause-err : goal.returns-in_err-try_copy-clause-err
 returns-in_err-try_copy-clause-err c =
@@ -30,13 +29,13 @@ returns-in_err-try_copy-clause-err c =
     let own : Comparison = c.index-own.result.now in
     let within : i < length items = omega (arith, c.loop-index-test.true, c.len-index-end.ensures) in
     let here : slice_get items i ≡ Some own = slice_get_read items (length items) i own refl within c.index-own.ensures in
-    let next : List ℕ = c.in-Some-lack.next.now in
-    let has : HasLack own (Some next) = λ r e same none. sym (ap option_copied c.in-Some-lack.is) ∙ c.lack.ensures r e same none in
+    let next : List ℕ = c.in-Some.next.now in
+    let has : HasLack own (Some next) = λ r e same none. sym (ap option_copied c.in-Some.is) ∙ c.lack.ensures r e same none in
     on_err_of c.from_residual.result (
-      Lacks c.in-Some.who own.count next,
-      lacks_apart c.in-Some.who own.count next,
-      lack_found setup c.args.self.now i own here (omega (arith, within, c.requires)) c.in-Some.who next
-          (who_found setup i c.in-Some.who c.in-Some.ensures) has c.loop-index.invariant,
+      Lacks c.who-who.result own.count next,
+      lacks_apart c.who-who.result own.count next,
+      lack_found setup c.args.self.now i own here (omega (arith, within, c.requires)) c.who-who.result next
+          c.who-who.ensures has c.loop-index.invariant,
     )
 
 pub loop-index-preserved : goal.loop-index-preserved
@@ -48,4 +47,4 @@ loop-index-preserved c =
     let within : i < length items = omega (arith, c.loop-index-test.true, c.len-index-end.ensures) in
     let here : slice_get items i ≡ Some own = slice_get_read items (length items) i own refl within c.index-own.ensures in
     lack_none setup c.args.self.now i own here (omega (arith, within, c.requires))
-    (λ r e same none. sym (ap option_copied (none_of c.lack.result c.in_default-lack.not-Some)) ∙ c.lack.ensures r e same none) c.loop-index.invariant
+    (λ r e same none. sym (ap option_copied (none_of c.lack.result c.in_default.not-Some)) ∙ c.lack.ensures r e same none) c.loop-index.invariant

@@ -1,6 +1,5 @@
 use Rattle.std.proofs.Common.{◌≡◌, ◌+◌, ◌-◌, length, subst, sym, arith}
 use Rattle.diag_world.proofs.Waiting.{each_more}
-use Rattle.diag_world.proofs.Worlds.{who_found}
 use Rattle.diag_world.specs.Server.{each_of}
 use Rattle.diag_bus.specs.Node.{Gave}
 use Rattle.diag_bus.proofs.Nodes.{gave_more, gave_none, same_more, same_none}
@@ -19,7 +18,7 @@ loop-index-init g c = record {
 
 pub give-requires-clause-in_setup : goal.give-requires-clause-in_setup
 give-requires-clause-in_setup g c =
-    let who = who_found c.args.setup.now c.loop-index.index c.in-Some.who c.in-Some.ensures in
+    let who = c.who-who.ensures in
     omega (arith, who, c.loop-index.invariant.shape.ports, c.requires.in_setup, c.testers-index-end.ensures.same)
 
 pub give-requires-clause-lists : goal.give-requires-clause-lists
@@ -28,10 +27,10 @@ give-requires-clause-lists g c = omega
 
 pub give-requires-clause-early : goal.give-requires-clause-early
 give-requires-clause-early g c = λ port at.
-    let who = who_found c.args.setup.now c.loop-index.index c.in-Some.who c.in-Some.ensures in
+    let who = c.who-who.ensures in
     let time = c.requires.early in
     let span = lasts c.args.event.now in
-    let low = (c.loop-index.invariant.pace span.0 span.1 time.time time.by (c.in-Some.who - 1) port at).1 (omega (arith, who)) in
+    let low = (c.loop-index.invariant.pace span.0 span.1 time.time time.by (c.who-who.result - 1) port at).1 (omega (arith, who)) in
     omega (arith, low, time.early)
 
 pub loop-index-preserved : goal.loop-index-preserved
@@ -40,13 +39,13 @@ loop-index-preserved g c =
     let mid = c.loop-index.self in
     let new = c.give.new.self in
     let inv = c.loop-index.invariant in
-    let index = c.in-Some.who - 1 in
-    let who = who_found c.args.setup.now c.loop-index.index c.in-Some.who c.in-Some.ensures in
+    let index = c.who-who.result - 1 in
+    let who = c.who-who.ensures in
     let here : index ≡ c.loop-index.index = omega (arith, who) in
     record {
       shape = same_more old mid new inv.shape c.give.ensures.shape;
       kept = (stays_kept g.S.Sink.is_for g.S.Sink.aim).more inv.kept c.give.ensures.kept;
-      gave = subst (λ L. Gave g.S.Sink.took old c.args.sink.now new c.give.new.sink L) (sym (each_more c.loop-index.index c.args.event.now c.in-Some.who who))
+      gave = subst (λ L. Gave g.S.Sink.took old c.args.sink.now new c.give.new.sink L) (sym (each_more c.loop-index.index c.args.event.now c.who-who.result who))
           (gave_more g.S.Sink.took inv.gave c.in_ok-give.ensures.ok);
       pace = λ span most. some_more old.server mid.server new.server c.loop-index.index index span here (inv.pace span most)
           (c.give.ensures.pace span most);
@@ -72,9 +71,9 @@ returns-clause-pace g c = λ span most.
 
 pub returns-in_err-give-clause-pace : goal.returns-in_err-give-clause-pace
 returns-in_err-give-clause-pace g c = λ span most.
-    let who = who_found c.args.setup.now c.loop-index.index c.in-Some.who c.in-Some.ensures in
+    let who = c.who-who.ensures in
     some_all c.args.self.now.server c.give.new.self.server (c.loop-index.index + 1) span
-    (some_more c.args.self.now.server c.loop-index.self.server c.give.new.self.server c.loop-index.index (c.in-Some.who - 1) span
+    (some_more c.args.self.now.server c.loop-index.self.server c.give.new.self.server c.loop-index.index (c.who-who.result - 1) span
     (omega (arith, who)) (c.loop-index.invariant.pace span most) (c.give.ensures.pace span most))
 
 pub returns-clause-sent : goal.returns-clause-sent

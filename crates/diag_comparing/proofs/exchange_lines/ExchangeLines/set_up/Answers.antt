@@ -1,5 +1,5 @@
 use Rattle.std.proofs.Common.{◌≡◌, ◌+◌, ◌++◌, ◌∷◌, [], inl, inr, length, length-append, refl, ap, subst, sym, ◌∙◌, arith}
-use Rattle.diag_world.proofs.Worlds.{push_cases, who_found}
+use Rattle.diag_world.proofs.Worlds.{push_cases}
 use Rattle.diag_compare.specs.Hearing.{unit_side}
 use Rattle.diag_judge.specs.declared.tester.Tester.{Tester}
 use Rattle.diag_comparing.specs.Keeping.{IsTester}
@@ -14,12 +14,12 @@ loop-index-preserved c =
     let setup = c.args.setup.now in
     let own = c.new.result in
     let grown : c.push.new.self.items ≡ before ++ own ∷ [] = c.in_ok-push.ensures.items in
-    let who = who_found setup c.loop-index.index c.in-Some.who c.in-Some.ensures in
+    let who = c.who-who.ensures in
     record {
       many = ap length grown ∙ omega (arith, length-append before (own ∷ []), inv.many);
       each = λ i tester at. elim (push_cases before i own tester (rw grown at at)) [
         | inl p ↦ (
-            let place : c.in-Some.who ≡ i + 1 = omega (arith, p.0, inv.many, who) in
+            let place : c.who-who.result ≡ i + 1 = omega (arith, p.0, inv.many, who) in
             subst (λ (x : Tester). IsTester setup [] [] (i + 1) x) (sym p.1)
             (new_tester setup (i + 1) own c.new.ensures.judges c.new.ensures.entered (c.new.ensures.link_setup ∙ c.unit_side.ensures ∙ ap (unit_side setup) place)))
         | inr p ↦ inv.each i tester p

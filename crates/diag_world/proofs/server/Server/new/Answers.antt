@@ -8,7 +8,7 @@ use Rattle.diag_port.specs.Port.{PortState, port_of}
 use Rattle.diag_port.specs.Standing.{PortStands}
 use Rattle.diag_world.specs.declared.lazy_port.LazyPort.{LazyPort}
 use Rattle.diag_world.proofs.Lazy.{seen_ports}
-use Rattle.diag_world.proofs.Worlds.{push_cases, map_cases, who_found}
+use Rattle.diag_world.proofs.Worlds.{push_cases, map_cases}
 use Rattle.diag_world.proofs.server.Server.new.Goals as goal
 
 pub loop-index-preserved : goal.loop-index-preserved
@@ -22,7 +22,7 @@ loop-index-preserved c =
       count = ap length grown ∙ omega (arith, length-append before (one ∷ []), inv.count);
       stand = λ i lazy at. elim (push_cases before i one lazy (rw grown at at)) [
         | inl p ↦ (
-            let place : c.in-Some.who ≡ i + 1 = omega (arith, p.0, inv.count, who_found c.args.setup.now c.loop-index.index c.in-Some.who c.in-Some.ensures) in
+            let place : c.who-who.result ≡ i + 1 = omega (arith, p.0, inv.count, c.who-who.ensures) in
             subst (λ (x : LazyPort). PortStands (link_of c.args.setup.now (i + 1)) (pace_of c.args.setup.now) (port_of (caught_up 0 x)) [] []) (sym p.1)
             (subst (λ s. PortStands s (pace_of c.args.setup.now) (port_of (caught_up 0 one)) [] []) (c.link.ensures ∙ ap (link_of c.args.setup.now) place)
             (subst (λ pace. PortStands c.link.result pace (port_of (caught_up 0 one)) [] []) c.of.ensures fresh.stands)))

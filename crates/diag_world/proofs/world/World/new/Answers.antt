@@ -3,7 +3,7 @@ use Rattle.std.proofs.lemmas.Grind.{common_steps}
 use Rattle.std.proofs.lemmas.List.{length-map, map-append}
 use Rattle.diag_world.specs.Channel.{channel_of}
 use Rattle.diag_world.proofs.Standing.{stands_begin}
-use Rattle.diag_world.proofs.Worlds.{push_cases, who_found}
+use Rattle.diag_world.proofs.Worlds.{push_cases}
 use Rattle.diag_world.proofs.world.World.new.Goals as goal
 
 pub loop-index-preserved : goal.loop-index-preserved
@@ -14,12 +14,12 @@ loop-index-preserved c =
     let many = length-map before channel_of in
     let grown : c.push_reserved.new.self.items ≡ before ++ one ∷ [] = search (rules, common_steps) in
     let seen = ap (map channel_of) grown ∙ map-append channel_of before (one ∷ []) in
-    let place = who_found c.args.setup.now c.loop-index.index c.in-Some.who c.in-Some.ensures in
+    let place = c.who-who.ensures in
     record {
       count = ap length grown ∙ omega (arith, length-append before (one ∷ []), inv.count);
       stand = λ i channel at. elim (push_cases (map channel_of before) i (channel_of one) channel (rw seen at at)) [
         | inl p ↦ (
-            let here : i + 1 ≡ c.in-Some.who = omega (arith, p.0, many, inv.count, place) in
+            let here : i + 1 ≡ c.who-who.result = omega (arith, p.0, many, inv.count, place) in
             rw (p.1, here, sym c.link.ensures, sym c.of.ensures) c.new-in-loop-index.ensures.stands)
         | inr p ↦ inv.stand i channel p
       ];

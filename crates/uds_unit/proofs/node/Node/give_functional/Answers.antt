@@ -1,6 +1,5 @@
 use Rattle.std.proofs.Common.{◌≡◌, length, refl, ap, sym, arith}
 use Rattle.std.proofs.lemmas.Result.{err_from_is_err_and}
-use Rattle.diag_world.proofs.Worlds.{who_found}
 use Rattle.diag_bus.specs.RequestIds.{functional_to_all}
 use Rattle.diag_bus.proofs.Nodes.{functional_more}
 use Rattle.diag_bus.proofs.Paces.{has_left}
@@ -13,7 +12,7 @@ loop-index-init c = passed_none c.args.self.now 0
 pub give_functional_to-requires : goal.give_functional_to-requires
 give_functional_to-requires c =
     let inv = c.loop-index.invariant in
-    let who = who_found c.args.setup.now c.loop-index.index c.in-Some.who c.in-Some.ensures in
+    let who = c.who-who.ensures in
     let within = c.testers-index-end.ensures.same in
     record {
       known = omega (arith, who, within, c.loop-index-test.true);
@@ -24,8 +23,8 @@ give_functional_to-requires c =
 
 pub loop-index-preserved : goal.loop-index-preserved
 loop-index-preserved c =
-    let who = who_found c.args.setup.now c.loop-index.index c.in-Some.who c.in-Some.ensures in
-    passed_as refl (sym (functional_more c.args.setup.now c.args.id c.args.bytes.now c.loop-index.index c.in-Some.who who))
+    let who = c.who-who.ensures in
+    passed_as refl (sym (functional_more c.args.setup.now c.args.id c.args.bytes.now c.loop-index.index c.who-who.result who))
     (passed_then 0 (omega arith) c.loop-index.invariant c.in_ok-give_functional_to.ensures)
 
 pub returns-in_err-give_functional_to : goal.returns-in_err-give_functional_to
