@@ -517,6 +517,12 @@ class OfTheBus(unittest.TestCase):
             found = learn_bus.sending_of(self.lines(first, *(f"7E8#{it}" for it in flows)), pair)
             self.assertEqual(wanted, (found.block_size, found.st_min), flows)
 
+    def test_flow_control_wait(self) -> None:
+        """That of the unit is told; a tester's isn't the unit's."""
+        pair, first = [learn_bus.Pair(0x7E0, 0x7E8)], "7E0#10142EF190414141"
+        for wanted, *flows in (([], "7E8#300000"), ([100010], "7E8#310000", "7E8#300000"), ([100010, 100030], "7E8#310000", "123#00", "7E8#310000"), ([], "7E0#310000"), ([], "7E8#3100")):
+            self.assertEqual(wanted, learn_bus.sending_of(self.lines(first, *flows), pair).paused, flows)
+
     def test_how_long_flow_control_took(self) -> None:
         """Of each block, behind FlowControl wait anew; what isn't within a message doesn't count."""
         pair, first, flow = [learn_bus.Pair(0x7E0, 0x7E8)], "7E8#101462F190414141", "7E0#300100"
@@ -836,9 +842,11 @@ class OfRecordings(unittest.TestCase):
         read, other = [(0, "7E0#0322F190"), (3, "7E8#0462F19041")], [(99, "7E1#023E00"), (102, "7E9#027E00")]
         told = "learn: line {}: the recording ends {} ms behind 22F190 of tester_7E0, before an answer: it is learned as unanswered\n"
         slow, present = (140, "7E8#037F2278"), (150, "7E0#023E80")
+        left = "learn: line 5: tester_7E0 was sent response pending to 22F190, and nothing behind it: it is learned so\n"
         for wanted, *more in (
             (told.format(5, 0), (110, "7E0#0322F190")), (told.format(5, 999), (110, "7E0#0322F190"), (1109, "123#00")), ("", (110, "7E0#0322F190"), (1110, "123#00")),
-            (told.format(5, 4999), (110, "7E0#0322F190"), slow, (5109, "123#00")), ("", (110, "7E0#0322F190"), slow, (5110, "123#00")),
+            (told.format(5, 4999).replace("unanswered", "response pending alone"), (110, "7E0#0322F190"), slow, (5109, "123#00")),
+            (left, (110, "7E0#0322F190"), slow, (5110, "123#00")),
             (told.format(5, 40), (110, "7E0#0322F190"), present), ("", (110, "7E0#0322F190"), (150, "7E0#023E00"), (152, "7E8#027E00")), ("", present),
             (told.format(5, 40), (110, "7E0#0322F190"), (150, "7E1#023E00"), (150, "7E9#027E00")),
         ):
@@ -971,6 +979,42 @@ class OfRecordings(unittest.TestCase):
         found = learned_of(frames((0, "7E0#0414FFFFFF"), (40, "7E8#037F1478"), (700, "7E8#0154")))
         self.assertEqual([{"request": "14FFFFFF", "after_ms": 700}], found.tree()["answer"])
         self.assertEqual(0, found.status)
+
+    def test_an_answer_that_never_came_behind_response_pending(self) -> None:
+        """It is learned as response pending alone, which is told."""
+        present, start, begun = ("3E00", "7E00"), ("31010203", "7F3178"), ("31010203", "71010203")
+        for asks, row in (
+            ([start], {"request": "31010203", "reply": ["7F3178"]}),
+            ([("31810203", "7F3178")], {"request": "31810203", "reply": ["7F3178"]}),
+            ([start, begun], {"request": "31010203", "reply": ["7F3178", "71010203"]}),
+            ([("31010203", "7F3178", "71010203"), ("31010203", "7F3178", "7F3178")], {"request": "31010203", "reply": ["71010203", "7F3178"], "after_ms": 64}),
+            ([begun, ("1003", "5003003201F4"), start], {"request": "31010203", "reply": ["7F3178"], "session": 3}),
+            ([("3101FF00" + "22" * 62, "7F3178")], {"request": "3101FF00" + "22" * 60 + "*", "reply": ["7F3178"]}),
+            ([*((f"36{at:02X}5566", f"76{at:02X}") for at in (1, 2, 4, 5)), ("36065566", "7F3678")], {"request": "36065566", "reply": ["7F3678"]}),
+        ):
+            lines = asked(present, *asks, *[present] * 6)
+            found = learned_of(lines)
+            self.assertEqual(0, found.status, asks)
+            self.assertRegex(found.told, r"^learn: line \d+: tester_7E0 was sent response pending to .*, and nothing behind it: it is learned so\n$")
+            self.assertIn(row, found.tree()["answer"], asks)
+            self.assertEqual(0, judged("compare", found, lines)[0], asks)
+        found = learned_of(asked(start, present, ("14FFFFFF", "7F1478"), *[present] * 6))
+        self.assertEqual("learn: 2 requests had response pending and nothing behind it, the first at line 1: they are learned so\n", found.told)
+        self.assertIn("# RoutineControl startRoutine, response pending and no answer: seen once, first at line 1\n", found.text)
+
+    def test_flow_control_wait_is_told(self) -> None:
+        """The unit's is a comment, for no setup has it; a tester's is served, however long it waits."""
+        session = [(0, "7E0#021003"), (3, "7E8#065003003201F4")]
+        write = [(9, "7E0#10082EF190414141"), (10, "7E8#310000"), (50, "7E8#300805"), (60, "7E0#214141"), (63, "7E8#036EF190")]
+        read = [(90, "7E0#0322F190"), (93, "7E8#100862F190414141"), (94, "7E0#310000"), (1594, "7E0#300000"), (1595, "7E8#214141"), (1600, "123#00")]
+        found = learned_of(frames(*session, *write))
+        self.assertEqual((0, "", 8, 5), (found.status, found.told, found.tree()["block_size"], found.tree()["st_min"]))
+        self.assertIn("\n# FlowControl wait: seen once, first at 100.010; the server sends none\nblock_size = 8\n", found.text)
+        lines = frames(*session, *read)
+        found = learned_of(lines)
+        self.assertEqual((0, "", 2000), (found.status, found.told, found.tree()["n_bs_ms"]))
+        self.assertNotIn("FlowControl wait", found.text)
+        self.assertEqual((0, "tester_7E0 3 frames agree\n"), judged("verify", found, lines)[:2])
 
     def test_an_answer_that_is_slow_in_one_session(self) -> None:
         """In the others it is as prompt as it was."""

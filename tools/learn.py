@@ -33,9 +33,9 @@ sys.path.append(os.path.join(os.path.dirname(os.path.abspath(__file__)), "parts"
 from learn_bus import ANSWER_MS, FUNCTIONAL, FUNCTIONAL_29, MOST_TESTERS, Broken, Pair, Sending
 from learn_bus import end_of, functional_of, look, pair_of, pairs_of, sending_of
 from learn_judge import AGREES, BAD_SETUP, DIFFERS, NOTHING, Exchange, Judge, Program, Refused, Verdict, shortened
-from learn_model import learn_model
+from learn_model import is_left_pending, learn_model
 from learn_rows import MOST_BYTES, Plan
-from learn_setup import Unit, is_apart, setup_text, why_apart
+from learn_setup import Unit, is_apart, moment, setup_text, why_apart
 from uds_streams import CannotWrite, fault_words, input_bytes, ready, write_out
 
 TOP = os.path.dirname(os.path.dirname(os.path.abspath(__file__)))
@@ -183,7 +183,7 @@ def learned(unit: Unit, judge: Judge, source: str, progress: Progress) -> tuple[
     unit.cut_off = cut_off(exchanges, unit)
     progress.at(0.3, "the model")
     learn_model(unit, exchanges)
-    plan, best = Plan(), None
+    plan, best = Plan(exchanges), None
     unit.rows = plan.rows(unit, exchanges)
     # (of a long recording they are much, and each verdict has its own)
     del exchanges
@@ -213,10 +213,22 @@ def cut_off(exchanges: list[Exchange], unit: Unit) -> list[Exchange]:
 
 
 def tell_cut_off(unit: Unit) -> None:
-    """Tells of the requests at the recording's end that are learned as unanswered."""
+    """Tells of the requests at the recording's end that are learned without their answer."""
     for it in unit.cut_off:
         asked, late = shortened(it.request.hex().upper()), unit.end - it.at
-        say(f"line {it.line}: the recording ends {late} ms behind {asked} of {it.name}, before an answer: it is learned as unanswered")
+        how = "response pending alone" if it.pendings else "unanswered"
+        say(f"line {it.line}: the recording ends {late} ms behind {asked} of {it.name}, before an answer: it is learned as {how}")
+
+
+def tell_left_pending(verdict: Verdict, unit: Unit) -> None:
+    """Tells of the requests whose answer never came behind response pending; those that the end cuts off are told already."""
+    told = {(it.line, it.place) for it in unit.cut_off}
+    left = [it for it in verdict.exchanges if is_left_pending(it) and (it.line, it.place) not in told]
+    if len(left) == 1:
+        asked = shortened(left[0].request.hex().upper())
+        say(f"line {left[0].line}: {left[0].name} was sent response pending to {asked}, and nothing behind it: it is learned so")
+    elif left:
+        say(f"{len(left)} requests had response pending and nothing behind it, the first at line {left[0].line}: they are learned so")
 
 
 def is_too_long(it: Exchange) -> bool:
@@ -260,7 +272,7 @@ def tell(verdict: Verdict, unit: Unit, left_out: int) -> None:
 
 def tell_broken(broken: Broken) -> None:
     """Tells of the unit's messages that the recording doesn't have whole."""
-    at = f"{broken.first // 1000}.{broken.first % 1000:03d}"
+    at = moment(broken.first)
     why = "a frame is missing, or out of order; what was asked is learned as unanswered"
     if broken.count == 1:
         say(f"a message of the unit breaks off, begun at {at}: {why}")
@@ -401,6 +413,7 @@ def main(given: Optional[list[str]] = None) -> int:
     tell(verdict, unit, left_out)
     tell_sizes(unit)
     tell_cut_off(unit)
+    tell_left_pending(verdict, unit)
     tell_broken(unit.sending.broken)
     return verdict.status if verdict.status in (DIFFERS, NOTHING) else AGREES
 

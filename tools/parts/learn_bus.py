@@ -278,8 +278,8 @@ class Sending:
     """How the unit and its testers send: the padding byte, None for none; block size and STmin of the unit's flow control;
     the longest request that it didn't refuse by that, and the shortest that it did, None where it refused none; the longest
     time within a request, and that for which an answer waited for flow control, in milliseconds; which messages of the unit
-    are broken; and of its frames of CAN FD the length of FirstFrames, the flags, and the byte that fills those of more than 8
-    bytes, None where none was seen."""
+    are broken; when it sent FlowControl wait; and of its frames of CAN FD the length of FirstFrames, the flags, and the byte
+    that fills those of more than 8 bytes, None where none was seen."""
 
     pad: Optional[int] = 0xCC
     block_size: int = 0
@@ -289,6 +289,7 @@ class Sending:
     n_cr: int = 0
     n_bs: int = 0
     broken: Broken = field(default_factory=Broken)
+    paused: list[int] = field(default_factory=list)
     tx_dl: Optional[int] = None
     flags: int = 1
     fill: Optional[int] = None
@@ -312,7 +313,7 @@ def sending_of(blocks: Iterable[str], pairs: list[Pair], interface: Optional[str
             if flags:
                 fd.take(data, flags)
             if kind == "3" and len(data) >= 6:
-                flows.take(identifier, data)
+                flows.take(now, identifier, data)
             elif identifier in found.broken.open:
                 waits[identifier] = now
             else:
@@ -373,24 +374,27 @@ def used_of(data: str, ending: int) -> int:
 @dataclass
 class Flows:
     """The unit's flow control: how often which block size and STmin let frames come; and how long the requests of several
-    frames are, by what it says to their FirstFrames: `0` lets them come, `2` refuses them as too long."""
+    frames are, by what it says to their FirstFrames: `0` lets them come, `2` refuses them as too long; and when it said wait."""
 
     let: Counter = field(default_factory=Counter)
     lengths: dict[str, set[int]] = field(default_factory=lambda: defaultdict(set))
     # by the response identifier how long the request is to which it has said neither
     open: dict[str, int] = field(default_factory=dict)
+    paused: list[int] = field(default_factory=list)
 
     def asked(self, response: str, length: int) -> None:
         """A FirstFrame of the tester that has the answers of this identifier."""
         self.open[response] = length
         self.lengths[""].add(length)
 
-    def take(self, response: str, data: str) -> None:
+    def take(self, now: int, response: str, data: str) -> None:
         """A frame of flow control."""
         status, block_size, st_min = data[1], int(data[2:4], 16), int(data[4:6], 16)
         if status == "0":
             # (ISO 15765-2 has a reserved STmin taken as the longest one)
             self.let[block_size, st_min if st_min <= 127 or 241 <= st_min <= 249 else 127] += 1
+        if status == "1":
+            self.paused.append(now)
         if status in ("0", "2") and response in self.open:
             self.lengths[status].add(self.open.pop(response))
 
@@ -398,6 +402,7 @@ class Flows:
         """The flow control that was seen most often counts."""
         if self.let:
             (found.block_size, found.st_min), _ = self.let.most_common(1)[0]
+        found.paused = self.paused
         refused = self.lengths["2"] - self.lengths["0"]
         found.longest = max(self.lengths[""] - refused, default=0)
         found.too_long = min((it for it in refused if it > found.longest), default=None)

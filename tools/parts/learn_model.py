@@ -29,6 +29,11 @@ def refusal(it: Exchange) -> int:
     return sent[2] if sent is not None and len(sent) == 3 and sent[0] == 0x7F and sent[1] == it.request[0] else 0
 
 
+def is_left_pending(it: Exchange) -> bool:
+    """Whether response pending came, and no answer."""
+    return it.sent is None and it.pendings > 0
+
+
 def sub_of(it: Exchange) -> int:
     """The sub-function, without its bit 7."""
     return it.request[1] & 0x7F if len(it.request) > 1 else 0

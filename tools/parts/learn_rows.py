@@ -9,7 +9,7 @@ from typing import Callable, Hashable, Iterable, Optional
 
 import uds_rules
 from learn_judge import Exchange
-from learn_model import Held, Walk, is_done, one_round, session_of, sub_of, values_in
+from learn_model import Held, Walk, is_done, is_left_pending, one_round, session_of, sub_of, values_in
 from learn_setup import Row, Seen, Unit, setup_text
 from uds_names import SERVICES
 
@@ -51,7 +51,7 @@ class Case:
         return self.all[0].request
 
     def differs(self) -> bool:
-        return any(it.differs() for it in self.all)
+        return any(it.differs() or is_left_pending(it) for it in self.all)
 
 
 def cases_of(unit: Unit, exchanges: list[Exchange]) -> list[Case]:
@@ -61,7 +61,7 @@ def cases_of(unit: Unit, exchanges: list[Exchange]) -> list[Case]:
         if it.request:
             held = walk.before(it)
             held = held if held.level in unit.levels or not held.level else Held(held.session)
-            key = it.request, it.sent, held
+            key = it.request, it.sent, is_left_pending(it), held
             if key not in found:
                 found[key] = Case(held, answer_of(unit, it), [])
             found[key].all.append(it)
@@ -70,7 +70,10 @@ def cases_of(unit: Unit, exchanges: list[Exchange]) -> list[Case]:
 
 
 def answer_of(unit: Unit, it: Exchange) -> str:
-    """What the unit sent, as a template has it: where values vary their bytes are any."""
+    """What the unit sent, as a template has it: where values vary their bytes are any; response pending where nothing came behind
+    it."""
+    if is_left_pending(it):
+        return f"7F{it.request[0]:02X}78"
     text, end = (it.sent or b"").hex().upper(), 2
     for number, value in values_in(unit, it) if unit.varies and it.request[0] == 0x22 else ():
         begin, end = end + 4, end + 4 + 2 * len(value)
@@ -240,10 +243,12 @@ def is_refused_key(it: Exchange) -> bool:
 
 
 class Plan:
-    """Which requests have rows, at which stage, and the rows that come of it."""
+    """Which requests have rows, at which stage, and the rows that come of it. Those that were left pending have rows from the
+    beginning: the judge looks away from response pending."""
 
-    def __init__(self) -> None:
-        self.stages: dict[bytes, Stage] = {}
+    def __init__(self, exchanges: Iterable[Exchange]) -> None:
+        left = {it.request[: MOST_ITEMS + 1] for it in exchanges if is_left_pending(it)}
+        self.stages: dict[bytes, Stage] = {it: Stage.BY_SESSION for it in sorted(left)}
         # the sessions and levels in which the exchanges of a request differed without rows
         self.differed: dict[bytes, set[Held]] = defaultdict(set)
         # services that the model lacks, whose requests share rows
@@ -342,7 +347,7 @@ def late_rows(unit: Unit, cases: list[Case], rows: list[Row]) -> list[Row]:
     are for the sessions and levels in which the answer was late, where it was prompt in others."""
     is_decided = Deciding(rows)
     late = grouped((it for it in cases if is_late(it) and not is_decided(it)), late_pattern)
-    others = (it for it in cases if it.answer and not is_late(it) and late_pattern(it) in late)
+    others = (it for it in cases if it.all[0].sent and not is_late(it) and late_pattern(it) in late)
     prompt = grouped((it for it in others if not is_decided(it)), late_pattern)
     found = []
     for pattern, own in late.items():

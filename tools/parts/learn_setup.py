@@ -14,6 +14,16 @@ N_CR, N_BS, LONGEST = 1000, 1000, 4095
 SHORTEST = 8
 
 
+def times(count: int) -> str:
+    """How often, in words."""
+    return "once" if count == 1 else f"{count} times"
+
+
+def moment(ms: int) -> str:
+    """A moment in milliseconds as seconds, as a stamp has it."""
+    return f"{ms // 1000}.{ms % 1000:03d}"
+
+
 @dataclass
 class Seen:
     """How often something was seen, and the line where it was seen first."""
@@ -26,7 +36,7 @@ class Seen:
         self.count += 1
 
     def shown(self) -> str:
-        return f"seen {'once' if self.count == 1 else f'{self.count} times'}, first at line {self.line}"
+        return f"seen {times(self.count)}, first at line {self.line}"
 
 
 @dataclass
@@ -165,6 +175,7 @@ def unit_keys(unit: Unit) -> Iterator[str]:
     yield f"# P2 and P2*: told at line {unit.told}\n" if unit.told else ""
     yield f"p2_ms = {unit.p2}\np2_star_10ms = {unit.p2_star // 10}\ns3_ms = {unit.s3}\n"
     yield from waits(sending)
+    yield from paused(sending)
     yield f"block_size = {sending.block_size}\nst_min = 0x{sending.st_min:02X}\n"
     yield from longest_request(sending)
     yield from filling(unit)
@@ -202,6 +213,12 @@ def waits(sending: Sending) -> Iterator[str]:
         yield f"n_bs_ms = {min(sending.n_bs + 500, 60000)}\n"
     if sending.n_cr >= N_CR:
         yield f"n_cr_ms = {min(sending.n_cr + 500, 60000)}\n"
+
+
+def paused(sending: Sending) -> Iterator[str]:
+    """That the unit sent FlowControl wait, which no setup has."""
+    if sending.paused:
+        yield f"# FlowControl wait: seen {times(len(sending.paused))}, first at {moment(sending.paused[0])}; the server sends none\n"
 
 
 def free_identifier(unit: Unit, is_extended: bool = False) -> int:
@@ -315,6 +332,8 @@ def row_words(row: Row) -> str:
         found += f" {IDENTIFIERS.get(int(items[1] + items[2], 16), '')}".rstrip()
     if row.reply == [""]:
         return f"{found}, no answer"
+    if row.reply == [f"7F{sid:02X}78"]:
+        return f"{found}, response pending and no answer"
     only = row.reply[0] if row.reply and len(row.reply) == 1 else ""
     is_negative = len(only) == 6 and only.startswith("7F") and only[4:].isalnum()
     return f"{found}, {refusal(int(only[4:], 16), 'refused')}" if is_negative else found
