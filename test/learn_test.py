@@ -988,6 +988,7 @@ class OfRecordings(unittest.TestCase):
             ([("31810203", "7F3178")], {"request": "31810203", "reply": ["7F3178"]}),
             ([start, begun], {"request": "31010203", "reply": ["7F3178", "71010203"]}),
             ([("31010203", "7F3178", "71010203"), ("31010203", "7F3178", "7F3178")], {"request": "31010203", "reply": ["71010203", "7F3178"], "after_ms": 64}),
+            ([("31010203",), start], {"request": "31010203", "reply": ["", "7F3178"]}),
             ([begun, ("1003", "5003003201F4"), start], {"request": "31010203", "reply": ["7F3178"], "session": 3}),
             ([("3101FF00" + "22" * 62, "7F3178")], {"request": "3101FF00" + "22" * 60 + "*", "reply": ["7F3178"]}),
             ([*((f"36{at:02X}5566", f"76{at:02X}") for at in (1, 2, 4, 5)), ("36065566", "7F3678")], {"request": "36065566", "reply": ["7F3678"]}),
@@ -1001,6 +1002,13 @@ class OfRecordings(unittest.TestCase):
         found = learned_of(asked(start, present, ("14FFFFFF", "7F1478"), *[present] * 6))
         self.assertEqual("learn: 2 requests had response pending and nothing behind it, the first at line 1: they are learned so\n", found.told)
         self.assertIn("# RoutineControl startRoutine, response pending and no answer: seen once, first at line 1\n", found.text)
+
+    def test_a_request_that_is_silent_in_one_session(self) -> None:
+        """It has a row for each session, and no two with one pattern of which the second never applies."""
+        silent, loud, session, default = ("280301",), ("280301", "6803"), ("1003", "5003003201F4"), ("1001", "5001003201F4")
+        found = learned_of(asked(("3E00", "7E00"), silent, session, loud, default, silent, session, loud, default, silent))
+        rows = [{"request": "280301", "reply": [""], "session": 1}, {"request": "280301", "reply": ["6803"], "session": 3}]
+        self.assertEqual((0, "", rows), (found.status, found.told, found.tree()["answer"]))
 
     def test_flow_control_wait_is_told(self) -> None:
         """The unit's is a comment, for no setup has it; a tester's is served, however long it waits."""

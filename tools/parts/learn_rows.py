@@ -192,12 +192,13 @@ ORDERS = [
 
 def explained(unit: Unit, cases: list[Case], held: Held, splits: tuple[str, ...]) -> list[Row]:
     """Rows for these exchanges, by these splits in their order."""
-    template = template_of(cases)
-    if template is not None and (len({it.request for it in cases}) == 1 or is_wide(cases)):
+    template, is_one = template_of(cases), len({it.request for it in cases}) == 1
+    if template is not None and (is_one or is_wide(cases)):
         return [row_of(unit, cases, [template], held)]
     for at, name in enumerate(splits):
         parts = grouped(cases, SPLITS[name])
-        if len(parts) > 1:
+        # (of rows with one pattern the first would decide)
+        if len(parts) > 1 and not (is_one and name == "silence"):
             own = ((part, narrowed(held, name, part[0])) for part in parts.values())
             rows = [row for part, where in own for row in explained(unit, part, where, splits[at + 1 :])]
             return rows if not is_idle(name, cases, rows) else in_order(unit, cases, held)
