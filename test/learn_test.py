@@ -1010,6 +1010,18 @@ class OfRecordings(unittest.TestCase):
         rows = [{"request": "280301", "reply": [""], "session": 1}, {"request": "280301", "reply": ["6803"], "session": 3}]
         self.assertEqual((0, "", rows), (found.status, found.told, found.tree()["answer"]))
 
+    def test_a_download_with_refused_blocks(self) -> None:
+        """The refused ones have rows of their own, also one that was sent again; one row takes all others."""
+        blocks = {at: f"36{at:02X}{at * 0x1234567 % 0xFFFFFFFB:08X}" + "5A" * (at % 3) for at in range(1, 20)}
+        taken = {at: (it, f"76{at:02X}") for at, it in blocks.items()}
+        for refused, again in (((7,), ()), ((), (7,)), ((3, 12), (7, 13))):
+            asks = [(blocks[at], "7F3672") for at in refused]
+            for at, it in taken.items():
+                asks += [] if at in refused else [(it[0], "7F3672"), it] if at in again else [it]
+            found = learned_of(asked(*asks))
+            rows = {**{blocks[at]: ["7F3672"] for at in refused}, **{blocks[at]: ["7F3672", f"76{at:02X}"] for at in again}, "36..*": ["76$1"]}
+            self.assertEqual((0, "", rows), (found.status, found.told, rows_of(found)))
+
     def test_flow_control_wait_is_told(self) -> None:
         """The unit's is a comment, for no setup has it; a tester's is served, however long it waits."""
         session = [(0, "7E0#021003"), (3, "7E8#065003003201F4")]

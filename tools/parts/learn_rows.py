@@ -178,6 +178,7 @@ ANY = Held(0, 0)
 # how exchanges are parted that no one row explains
 SPLITS: dict[str, Callable[[Case], Hashable]] = {
     "silence": lambda it: it.answer == "",
+    "refusal": lambda it: it.answer.startswith("7F"),
     "sub-function": lambda it: it.request[:2],
     "request": request_of,
     "session": lambda it: it.held.session,
@@ -186,24 +187,35 @@ SPLITS: dict[str, Callable[[Case], Hashable]] = {
 ORDERS = [
     it
     for it in permutations(SPLITS)
-    if it.index("session") < it.index("level") and it.index("silence") < it.index("sub-function") < it.index("request")
+    if it.index("session") < it.index("level") and it.index("silence") < it.index("refusal") < it.index("sub-function") < it.index("request")
 ]
+# those by what the unit sent
+BY_ANSWER = ("silence", "refusal")
 
 
 def explained(unit: Unit, cases: list[Case], held: Held, splits: tuple[str, ...]) -> list[Row]:
     """Rows for these exchanges, by these splits in their order."""
-    template, is_one = template_of(cases), len({it.request for it in cases}) == 1
-    if template is not None and (is_one or is_wide(cases)):
+    template = template_of(cases)
+    if template is not None and (len({it.request for it in cases}) == 1 or is_wide(cases)):
         return [row_of(unit, cases, [template], held)]
     for at, name in enumerate(splits):
-        parts = grouped(cases, SPLITS[name])
-        # (of rows with one pattern the first would decide)
-        if len(parts) > 1 and not (is_one and name == "silence"):
+        parts = parted(cases, name)
+        if len(parts) > 1:
             own = ((part, narrowed(held, name, part[0])) for part in parts.values())
             rows = [row for part, where in own for row in explained(unit, part, where, splits[at + 1 :])]
             return rows if not is_idle(name, cases, rows) else in_order(unit, cases, held)
     parts = grouped(cases, request_of).values()
     return [row for part in parts for row in in_order(unit, part, held)]
+
+
+def parted(cases: list[Case], name: str) -> dict[Hashable, list[Case]]:
+    """These exchanges by one of the splits. What the unit sent doesn't part those of one request, for of two rows with its pattern
+    the first would decide: such requests are a part of their own."""
+    key = SPLITS[name]
+    if name not in BY_ANSWER:
+        return grouped(cases, key)
+    kinds = {request: {key(it) for it in own} for request, own in grouped(cases, request_of).items()}
+    return grouped(cases, lambda it: key(it) if len(kinds[request_of(it)]) == 1 else None)
 
 
 def is_idle(name: str, cases: list[Case], rows: list[Row]) -> bool:
@@ -300,9 +312,10 @@ class Plan:
 
 
 def rank(row: Row) -> tuple:
-    """A row that wants a level, a session, or more bytes to be what they are, comes before one that doesn't."""
+    """A row that wants a level, a session, or more bytes to be what they are, comes before one that doesn't; of two alike the one
+    that was seen more often."""
     is_wide_row = ".." in row.request or row.request.endswith("*")
-    return is_wide_row, row.level == 0, row.session == 0, -len(row.request.replace(".", "")), row.request
+    return is_wide_row, row.level == 0, row.session == 0, -len(row.request.replace(".", "")), -row.seen.count, row.request
 
 
 def rows_at(unit: Unit, cases: list[Case], stage: Stage, differed: set[Held]) -> list[Row]:
