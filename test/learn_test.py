@@ -1022,6 +1022,15 @@ class OfRecordings(unittest.TestCase):
             rows = {**{blocks[at]: ["7F3672"] for at in refused}, **{blocks[at]: ["7F3672", f"76{at:02X}"] for at in again}, "36..*": ["76$1"]}
             self.assertEqual((0, "", rows), (found.status, found.told, rows_of(found)))
 
+    def test_what_changes_the_session_is_explained_first(self) -> None:
+        """What differs for that alone has no row: SecurityAccess in a session that a row enters, a value behind a refused write."""
+        found = learned_of(asked(("1002", "5002003201F4"), ("2711", "671101020304"), ("271211223344", "6712"), ("3101FF00", "7101FF00"), ("3E00", "7E00")))
+        self.assertEqual((0, "", {"1002": ["5002003201F4"]}), (found.status, found.told, rows_of(found)))
+        self.assertEqual(([0x11], [0xFF00]), ([it["sub"] for it in found.tree()["level"]], [it["id"] for it in found.tree()["routine"]]))
+        read = ("220100", "62010001")
+        found = learned_of(asked(("1003", "5003003201F4"), ("2E010001", "6E0100"), read, ("2E0100FF", "7F2E31"), read))
+        self.assertEqual((0, "", {"2E0100FF": ["7F2E31"]}), (found.status, found.told, rows_of(found)))
+
     def test_flow_control_wait_is_told(self) -> None:
         """The unit's is a comment, for no setup has it; a tester's is served, however long it waits."""
         session = [(0, "7E0#021003"), (3, "7E8#065003003201F4")]

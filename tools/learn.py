@@ -48,7 +48,7 @@ OF_CANDUMP = re.compile(rb"\(\d+\.\d+\) +\S+ +[0-9A-Fa-f]+#")
 # so much of a recording is read at a time
 BLOCK = 1 << 22
 # the most rounds, and how many of them may bring nothing
-MOST_ROUNDS, MOST_IDLE = 16, 4
+MOST_ROUNDS, MOST_IDLE = 16, 6
 # the most differences that are told one by one
 MOST_TOLD = 1000
 MOST_OF_11_BITS, MOST_OF_29_BITS = 0x7FF, 0x1FFFFFFF

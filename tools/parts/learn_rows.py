@@ -26,6 +26,8 @@ LONGEST_AFTER = 600_000
 
 # services that change the session, or what is unlocked in it
 OF_THE_SESSION = (0x10, 0x11, 0x27)
+# services that change what others answer, in the order in which they are explained
+CAUSES = ((0x10, 0x11), (0x14, 0x27, 0x2E, 0x31))
 
 
 class Stage(IntEnum):
@@ -278,12 +280,18 @@ class Plan:
         first = [it for it in own if it not in self.stages or it[0] in OF_THE_SESSION]
         # a wrong key that any key's level takes unlocks: what differs behind that may differ for this alone
         refused = {it.request[: MOST_ITEMS + 1] for it in exchanges if it.differs() and is_refused_key(it)} - set(self.stages)
-        if refused:
-            first, lacking = sorted(refused), set()
+        causes = refused or self.causes(own)
+        if causes:
+            first, lacking = sorted(causes), set()
         self.services |= lacking
         for request in first or own:
             self.stages[request] = self.stage_behind(request)
         return bool(lacking or first or own)
+
+    def causes(self, own: list[bytes]) -> set[bytes]:
+        """The requests that are to have rows before others: what these are answered may differ for them alone."""
+        parts = ({it for it in own if it[0] in part and it not in self.stages} for part in CAUSES)
+        return next(filter(None, parts), set())
 
     def stage_behind(self, request: bytes) -> Stage:
         """How a request is explained that differs as it is explained now."""
