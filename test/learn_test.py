@@ -1031,6 +1031,23 @@ class OfRecordings(unittest.TestCase):
         found = learned_of(asked(("1003", "5003003201F4"), ("2E010001", "6E0100"), read, ("2E0100FF", "7F2E31"), read))
         self.assertEqual((0, "", {"2E0100FF": ["7F2E31"]}), (found.status, found.told, rows_of(found)))
 
+    def test_times_that_the_default_session_tells(self) -> None:
+        """They count where the unit never told those of 10 03."""
+        for asks, times in (
+            ([("1001", "5001001901F4")], (25, 500)), ([("1001", "5001001901F4"), ("1001", "500100320064")], (25, 500)),
+            ([("1001", "5001001901F4"), ("1003", "500300320064")], (50, 100)), ([("1003", "500300320064"), ("1001", "5001001901F4")], (50, 100)),
+            ([("1002", "5002001901F4"), ("1001", "5001")], (50, 500)),
+        ):
+            found = learned_of(asked(*asks))
+            self.assertEqual((0, times), (found.status, (found.tree()["p2_ms"], found.tree()["p2_star_10ms"])), asks)
+
+    def test_classic_answers_to_can_fd(self) -> None:
+        """FirstFrames of 8 bytes are such, too."""
+        lines = frames((0, "7E0##10322F190"), (3, "7E8#100862F190414141"), (4, "7E0##1300000"), (5, "7E8#214141"), (50, "7E0##1023E00"), (53, "7E8#027E00"), (90, "123#00"))
+        found = learned_of(lines)
+        self.assertEqual((0, 8, 1), (found.status, found.tree()["tx_dl"], found.tree()["fd_flags"]))
+        self.assertEqual((0, "tester_7E0 3 frames agree\n"), judged("verify", found, lines)[:2])
+
     def test_flow_control_wait_is_told(self) -> None:
         """The unit's is a comment, for no setup has it; a tester's is served, however long it waits."""
         session = [(0, "7E0#021003"), (3, "7E8#065003003201F4")]

@@ -310,7 +310,7 @@ def sending_of(blocks: Iterable[str], pairs: list[Pair], interface: Optional[str
         if identifier in responses:
             filling.take(data, found.broken.ended_by(identifier, data))
             found.broken.take(now, identifier, data)
-            if flags:
+            if identifier in by_fd:
                 fd.take(data, flags)
             if kind == "3" and len(data) >= 6:
                 flows.take(now, identifier, data)
@@ -410,16 +410,17 @@ class Flows:
 
 @dataclass
 class FdFrames:
-    """What was seen of the unit's frames of CAN FD: the lengths of FirstFrames, for a SingleFrame is as short as it can be,
-    and the flags."""
+    """What was seen of the unit's frames to testers by CAN FD: the lengths of FirstFrames, for a SingleFrame is as short as it
+    can be, and the flags. Some units answer by classic frames."""
 
     lengths: Counter = field(default_factory=Counter)
     flags: Counter = field(default_factory=Counter)
 
-    def take(self, data: str, flags: str) -> None:
+    def take(self, data: str, flags: Optional[str]) -> None:
         if data[:1] == "1":
             self.lengths[len(data) // 2] += 1
-        self.flags[int(flags, 16)] += 1
+        if flags:
+            self.flags[int(flags, 16)] += 1
 
     def settle(self, found: Sending) -> None:
         """What was seen most often counts."""

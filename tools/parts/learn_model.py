@@ -40,8 +40,8 @@ def sub_of(it: Exchange) -> int:
 
 
 def is_done(it: Exchange) -> bool:
-    """Whether the unit did what was asked, also where the request wanted no reply."""
-    return is_positive(it) or (it.sent is None and len(it.request) > 1 and it.request[1] >= 0x80)
+    """Whether the unit did what was asked, also where the request wanted no reply: behind response pending it has one."""
+    return is_positive(it) or (it.sent is None and not it.pendings and len(it.request) > 1 and it.request[1] >= 0x80)
 
 
 def session_of(it: Exchange) -> int:
@@ -142,10 +142,11 @@ class Notes:
 
 
 def read_session(unit: Unit, notes: Notes, it: Exchange, _: Held, __: int) -> None:
-    """`50 03` tells P2 and P2*."""
-    if is_positive(it) and sub_of(it) == 3 and len(it.sent) == 6 and not notes.has_times:
+    """`50 03` tells P2 and P2*, and `50 01` where the unit never sent that."""
+    is_new = sub_of(it) == 3 and not notes.has_times or sub_of(it) == 1 and not unit.told
+    if is_new and is_positive(it) and len(it.sent) == 6:
         unit.p2, unit.p2_star = int.from_bytes(it.sent[2:4], "big"), 10 * int.from_bytes(it.sent[4:6], "big")
-        unit.told, notes.has_times = it.line, True
+        unit.told, notes.has_times = it.line, sub_of(it) == 3
 
 
 def read_codes(unit: Unit, notes: Notes, it: Exchange, _: Held, __: int) -> None:
