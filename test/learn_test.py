@@ -1031,6 +1031,14 @@ class OfRecordings(unittest.TestCase):
         found = learned_of(asked(("1003", "5003003201F4"), ("2E010001", "6E0100"), read, ("2E0100FF", "7F2E31"), read))
         self.assertEqual((0, "", {"2E0100FF": ["7F2E31"]}), (found.status, found.told, rows_of(found)))
 
+    def test_a_routine_that_is_started_without_a_reply(self) -> None:
+        """It begins, be it known or not."""
+        session, start, silent, runs, done = ("1003", "5003003201F4"), ("31010204", "71010204"), ("31810204",), ("31030204", "7103020401"), ("31030204", "7103020400AB")
+        for asks in ([start, runs, done, silent, runs, done], [silent, runs, done], [silent, runs, ("31820204",), ("31030204", "7F3124"), start, runs, done]):
+            found = learned_of(asked(session, *asks))
+            self.assertEqual((0, "", {}), (found.status, found.told, rows_of(found)), asks)
+            self.assertEqual([(0x0204, 1500, "AB")], [(it["id"], it["time_ms"], it["result"]) for it in found.tree()["routine"]], asks)
+
     def test_times_that_the_default_session_tells(self) -> None:
         """They count where the unit never told those of 10 03."""
         for asks, times in (

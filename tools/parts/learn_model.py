@@ -228,28 +228,29 @@ def read_writing(unit: Unit, notes: Notes, it: Exchange, held: Held, _: int) -> 
 
 
 def read_routine(unit: Unit, notes: Notes, it: Exchange, held: Held, _: int) -> None:
-    """`71 01` begins a routine, and `71 03` tells that it runs, or its result."""
+    """`71 01` begins a routine, as a physical start that wants no reply, and `71 03` tells that it runs, or its result."""
     number = int.from_bytes(it.request[2:4], "big")
     if refusal(it) == 0x33:
         notes.locked.add((0x31, number))
-    if len(it.request) != 4 or (not is_positive(it) and refusal(it) != 0x22):
+    is_taken = is_positive(it) or it.kind == "P" and is_done(it)
+    if len(it.request) != 4 or not is_taken and refusal(it) != 0x22:
         return
     gone = it.at - notes.begun[number] if number in notes.begun else None
     if sub_of(it) == 1:
         read_start(unit, notes, it, held, gone)
     elif sub_of(it) == 2:
         notes.begun.pop(number, None)
-    elif sub_of(it) == 3 and number in unit.routines and len(it.sent) > 4 and gone is not None:
+    elif sub_of(it) == 3 and number in unit.routines and len(it.sent or b"") > 4 and gone is not None:
         read_result(unit.routines[number], it.sent[4:], gone)
 
 
 def read_start(unit: Unit, notes: Notes, it: Exchange, held: Held, gone: Optional[int]) -> None:
     """A start that is accepted, or refused while the routine runs (0x22)."""
     number = int.from_bytes(it.request[2:4], "big")
-    if not is_positive(it):
+    if refusal(it):
         if gone is not None:
             unit.routines[number].least = max(unit.routines[number].least, gone)
-    elif len(it.sent) == 4:
+    elif it.sent is None or len(it.sent) == 4:
         routine = unit.routines.setdefault(number, Routine(Seen()))
         routine.seen.at(it.line)
         done_by(routine, gone)
