@@ -253,7 +253,7 @@ def tell_sizes(unit: Unit) -> None:
 
 
 def tell(verdict: Verdict, unit: Unit, left_out: int) -> None:
-    """Tells what differs, by so many rows that found no room."""
+    """Tells what differs, by so many rows that found no room, and what else a reader of the setup should know."""
     differing = verdict.differing()
     if not unit.varies and any(it.request[:1] == b"\x22" and not is_too_long(it) for it in differing):
         say("with --varies the values that change aren't compared")
@@ -268,6 +268,10 @@ def tell(verdict: Verdict, unit: Unit, left_out: int) -> None:
         say(line)
     if verdict.status == NOTHING:
         say("nothing was compared: no exchange of these testers is in the recording")
+    tell_sizes(unit)
+    tell_cut_off(unit)
+    tell_left_pending(verdict, unit)
+    tell_broken(unit.sending.broken)
 
 
 def tell_broken(broken: Broken) -> None:
@@ -411,10 +415,6 @@ def main(given: Optional[list[str]] = None) -> int:
     if not is_printed(text):
         return 7
     tell(verdict, unit, left_out)
-    tell_sizes(unit)
-    tell_cut_off(unit)
-    tell_left_pending(verdict, unit)
-    tell_broken(unit.sending.broken)
     return verdict.status if verdict.status in (DIFFERS, NOTHING) else AGREES
 
 

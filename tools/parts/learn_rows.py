@@ -201,7 +201,7 @@ def explained(unit: Unit, cases: list[Case], held: Held, splits: tuple[str, ...]
     if template is not None and (len({it.request for it in cases}) == 1 or is_wide(cases)):
         return [row_of(unit, cases, [template], held)]
     for at, name in enumerate(splits):
-        parts = parted(cases, name)
+        parts = parts_of(cases, name)
         if len(parts) > 1:
             own = ((part, narrowed(held, name, part[0])) for part in parts.values())
             rows = [row for part, where in own for row in explained(unit, part, where, splits[at + 1 :])]
@@ -210,7 +210,7 @@ def explained(unit: Unit, cases: list[Case], held: Held, splits: tuple[str, ...]
     return [row for part in parts for row in in_order(unit, part, held)]
 
 
-def parted(cases: list[Case], name: str) -> dict[Hashable, list[Case]]:
+def parts_of(cases: list[Case], name: str) -> dict[Hashable, list[Case]]:
     """These exchanges by one of the splits. What the unit sent doesn't part those of one request, for of two rows with its pattern
     the first would decide: such requests are a part of their own."""
     key = SPLITS[name]
