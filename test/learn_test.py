@@ -621,11 +621,18 @@ class OfTheParts(unittest.TestCase):
         self.assertEqual(["P0562-00", "U0100-11", "C1234-56", "B2ABC-DE"], [code_name(it) for it in (0x056200, 0xC10011, 0x523456, 0xAABCDE)])
 
     def test_words_of_rows(self) -> None:
-        rows = [Row("2743", ["7F2770"]), Row("1905*", ["7F1994"]), Row("1003", [""])]
+        rows = [
+            Row("2743", ["7F2770"]), Row("1905*", ["7F1994"]), Row("1003", [""]), Row("22F190", ["62F19041", "", "62F19041"]),
+            Row("14FFFFFF", ["7F1478"]), Row("14FFFFFF", ["7F1478", "54"]), Row("14FFFFFF"),
+        ]
         want = [
             "SecurityAccess requestSeed, uploadDownloadNotAccepted",
             "ReadDTCInformation reportDTCStoredDataByRecordNumber, refused",
             "DiagnosticSessionControl extendedDiagnosticSession, no answer",
+            "ReadDataByIdentifier VIN, at times no answer",
+            "ClearDiagnosticInformation, response pending and no answer",
+            "ClearDiagnosticInformation, at times response pending and no answer",
+            "ClearDiagnosticInformation",
         ]
         self.assertEqual(want, [row_words(it) for it in rows])
 

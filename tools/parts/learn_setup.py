@@ -322,7 +322,7 @@ def answer_tables(unit: Unit) -> Iterator[str]:
 
 
 def row_words(row: Row) -> str:
-    """What a row is for, in words: the service, its sub-function or its identifier, and a negative response or none."""
+    """What a row is for, in words: the service, its sub-function or its identifier, and a negative response, or that no answer came."""
     items = [row.request[at : at + 2] for at in range(0, min(len(row.request), 6), 2)]
     sid = int(items[0], 16)
     found = service_name(sid)
@@ -330,10 +330,10 @@ def row_words(row: Row) -> str:
         found += f" {sub_name(sid, int(items[1], 16))}".rstrip()
     if sid in (0x22, 0x2E) and len(items) > 2 and (items[1] + items[2]).isalnum():
         found += f" {IDENTIFIERS.get(int(items[1] + items[2], 16), '')}".rstrip()
-    if row.reply == [""]:
-        return f"{found}, no answer"
-    if row.reply == [f"7F{sid:02X}78"]:
-        return f"{found}, response pending and no answer"
+    replies = set(row.reply or ())
+    for text, words in (("", "no answer"), (f"7F{sid:02X}78", "response pending and no answer")):
+        if text in replies:
+            return f"{found}, {words}" if len(replies) == 1 else f"{found}, at times {words}"
     only = row.reply[0] if row.reply and len(row.reply) == 1 else ""
     is_negative = len(only) == 6 and only.startswith("7F") and only[4:].isalnum()
     return f"{found}, {refusal(int(only[4:], 16), 'refused')}" if is_negative else found
