@@ -40,6 +40,12 @@ fn packed_kind(first: &[u8]) -> Option<&'static str> {
         [0x1F, 0x8B, ..] => Some(
             "packed by gzip: unpack it, or pipe what zcat writes into bus, verify or compare",
         ),
+        [0xFD, b'7', b'z', b'X', b'Z', 0, ..] => Some(
+            "packed by xz: unpack it, or pipe what xzcat writes into bus, verify or compare",
+        ),
+        [0x28, 0xB5, 0x2F, 0xFD, ..] => Some(
+            "packed by zstd: unpack it, or pipe what zstdcat writes into bus, verify or compare",
+        ),
         [b'P', b'K', 3, 4, ..] => Some("packed by zip: unpack it"),
         _ => None,
     }
