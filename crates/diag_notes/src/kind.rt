@@ -84,6 +84,8 @@ fn by_text(line: &str) -> &'static str {
         "it is what candump shows on the screen: record with candump -L, which has the form (1.000000) can0 7E0#021003"
     } else if is_journal(line) {
         "it is a journal: uds_play replay CONFIG JOURNAL takes one"
+    } else if is_printed(line) {
+        "it is what python-can prints, on the screen or into a .txt, and can't read again: record with can_logger -f bus.log"
     } else if is_asc(line) {
         "it is ASC: convert it with asc2log of can-utils"
     } else if line.starts_with(";$") {
@@ -182,6 +184,11 @@ fn is_journal(line: &str) -> bool {
             && kind.is_some_and(|kind| kind == "P" || kind == "F" || kind == "T"))
 }
 
+/// Whether a line is a message as python-can's Printer writes it.
+fn is_printed(line: &str) -> bool {
+    line.starts_with("Timestamp: ") && line.contains(" ID: ")
+}
+
 fn is_asc(line: &str) -> bool {
     line.starts_with("date ")
         || line.starts_with("base ")
@@ -219,7 +226,12 @@ fn is_other_recording(text: &[u8]) -> bool {
     recorder_kind(text).is_some()
         || first.starts_with(b"date ".as_slice())
         || first.starts_with(b";$".as_slice())
-        || is_screen(std::str::from_utf8(first).unwrap_or(""))
+        || is_line_of_others(std::str::from_utf8(first).unwrap_or(""))
+}
+
+/// Whether a line is one that candump shows, or that python-can prints.
+fn is_line_of_others(line: &str) -> bool {
+    is_screen(line) || is_printed(line)
 }
 
 /// Whether the first line of a text that is neither empty nor a comment is one of a recording.
