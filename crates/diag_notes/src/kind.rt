@@ -23,7 +23,9 @@ fn recorder_kind(first: &[u8]) -> Option<&'static str> {
         | [0xD4, 0xC3, 0xB2, 0xA1, ..]
         | [0xA1, 0xB2, 0xC3, 0xD4, ..]
         | [0x4D, 0x3C, 0xB2, 0xA1, ..]
-        | [0xA1, 0xB2, 0x3C, 0x4D, ..] => { Some("a capture of Wireshark: record with candump -L") }
+        | [0xA1, 0xB2, 0x3C, 0x4D, ..] => Some(
+            "a capture of Wireshark: convert it with tshark and awk, as docs/USE.md shows, or record with candump -L",
+        ),
         [b'M', b'D', b'F', b' ', ..] => {
             Some("MDF: export it as ASC, which asc2log of can-utils converts")
         }
