@@ -228,7 +228,7 @@ fn write_meant_bytes<W: fmt::Write>(
 }
 
 /// A text without the `0x` before it.
-fn digits_of(text: &str) -> &str {
+pub fn digits_of(text: &str) -> &str {
     text.strip_prefix("0x").unwrap_or(text)
 }
 

@@ -7,6 +7,7 @@ ghost use Rattle.diag_check.specs.Report.{AreFaultsOf, IsLedBy};
 
 mod across;
 mod finding;
+mod item;
 mod keys;
 mod look;
 mod near;

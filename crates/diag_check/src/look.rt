@@ -2,6 +2,7 @@
 
 use crate::across::latest_answer_ms;
 use crate::finding::{Finding, Meant, Remark, Row, Shown, ShownKey, Spot};
+use crate::item::item_hint;
 use crate::keys::{KEYS, Key, Kind, Need, Table, Wanted};
 use crate::near::hint;
 use crate::places::Places;
@@ -139,7 +140,9 @@ impl<'a> Look<'a> {
         let place = match bad_item(kind, value) {
             Some((number, item)) => {
                 let shown = Shown(item);
-                format!(in self.alloc; "{name}{row} has as number {number} {shown}: {what}")?
+                let hint = item_hint(self.alloc, kind, item)?;
+                let hint = hint.as_str();
+                format!(in self.alloc; "{name}{row} has as number {number} {shown}: {what}{hint}")?
             }
             None => {
                 let shown = Shown(value);

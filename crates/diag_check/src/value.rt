@@ -74,7 +74,12 @@ pub fn is_pattern(value: &Value) -> bool {
 
 /// Whether a value is a template.
 pub fn is_template(value: &Value) -> bool {
-    value.is_str() && text(value).chunks(2).all(is_template_item)
+    value.is_str() && is_template_text(text(value))
+}
+
+/// Whether a text is a template.
+pub fn is_template_text(text: &[u8]) -> bool {
+    text.chunks(2).all(is_template_item)
 }
 
 /// The greatest index of a request's byte that a template names.
