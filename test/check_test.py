@@ -4,9 +4,10 @@ seed. The first line of `check` begins with the fault that a run tells, and name
 `check` finds no fault, and its status says which. Each line of `check` tells the line of the setup on which the key or the
 table was written here, and none where that isn't plain. Of rows of answers it says which never apply, for nothing leads to
 their session, or an earlier one takes all of their requests: those, and no others, for which no request of a few bytes says
-otherwise.
+otherwise; and which are for session 3 where 10 83 alone leads there.
 The last line is 'N passed, M failed'."""
 import copy
+import functools
 import itertools
 import os
 import random
@@ -35,10 +36,15 @@ MOST_ROWS = {"tester": 8, "did": 1024, "code": 4096, "routine": 256, "level": 4,
 # rows of answers, and the requests, sessions and unlocked levels that tell them apart; 0 is none
 ITEMS = ("22", "2E", "2e", "..")
 REQUESTS = [request for count in (1, 2, 3, 4) for request in itertools.product((0x22, 0x2E, 0x31), repeat=count)]
+# those by which a tester asks for session 3, patterns for these, and requests that tell the patterns apart
+CONTROLS = ((0x10, 0x03), (0x10, 0x83))
+CONTROL_PATTERNS = ("1003", "1083", "10..", "10*", "1003*", "10..*")
+REQUESTS += [*CONTROLS, (0x10,), (0x10, 0x31), (0x10, 0x03, 0x31), (0x10, 0x83, 0x31), (0x10, 0x31, 0x31)]
 ACCESSES = [(1, 0)] + [(session, level) for session in (2, 3, 4) for level in (0, 1, 3)]
 ROW_SETUPS = 300
 TAKEN = re.compile(r"(?:line \d+: )?request of \[\[answer\]\] (\d+) is .*: the row never applies, for \[\[answer\]\] (\d+) with ")
 UNREACHED = re.compile(r"(?:line \d+: )?session of \[\[answer\]\] (\d+) is \d+: the row never applies, for nothing leads to session ")
+QUIET = re.compile(r"(?:line \d+: )?session of \[\[answer\]\] (\d+) is 3: 10 83 alone leads to session 3, ")
 UNPLACED = "the look at the setup found another first"
 SEVERAL = 400
 # what a line of `check` tells of: a key or, where one is missing, a table
@@ -339,8 +345,22 @@ def compare(folder, name, written, before=b""):
 
 def random_row(chance):
     pattern = "".join(chance.choice(ITEMS) for _ in range(chance.randint(1, 3))) + chance.choice(("", "*"))
+    if chance.random() < 0.4:
+        pattern = chance.choice(CONTROL_PATTERNS)
     row = {"request": pattern, "session": chance.choice((0, 0, 1, 2, 3, 4)), "level": chance.choice((0, 0, 1, 3))}
-    return {**row, "reply": [""], "enter": chance.choice((1, 2, 3, 4))} if chance.random() < 0.4 else row
+    way = chance.random()
+    if way < 0.4:
+        return {**row, "reply": [""], "enter": chance.choice((1, 2, 3, 4))}
+    return {**row, "reply": [""]} if way < 0.8 else row
+
+
+@functools.cache
+def fitting(pattern):
+    """The requests that a row's pattern is for."""
+    text = pattern.rstrip("*")
+    items = [text[at : at + 2] for at in range(0, len(text), 2)]
+    has_length = (lambda n: n >= len(items)) if pattern.endswith("*") else (lambda n: n == len(items))
+    return frozenset(it for it in REQUESTS if has_length(len(it)) and all(item == ".." or int(item, 16) == b for item, b in zip(items, it)))
 
 
 def accesses(row):
@@ -348,42 +368,51 @@ def accesses(row):
     return [it for it in ACCESSES if row["session"] in (0, it[0]) and row["level"] in (0, it[1])]
 
 
-def reached(rows):
-    """The sessions that a tester may come to, from the default session on: the server enters 3, and a row what it says."""
-    found, new = set(), {1, 3}
+def is_served(rows, request, access):
+    """Whether the server itself answers a request: the first row that applies has no reply, or there is none."""
+    return "reply" not in next((row for row in rows if request in fitting(row["request"]) and access in accesses(row)), {})
+
+
+def taker(rows, number, sessions):
+    """The number of the first row before one, from 1, that takes all to which this one applies in these sessions; 0 where there
+    is none, and None where it never applies."""
+    own, at = fitting(rows[number - 1]["request"]), places_of(rows[number - 1], sessions)
+    takers = (first for first, row in enumerate(rows[: number - 1], 1) if own <= fitting(row["request"]) and at <= places_of(row, sessions))
+    return next(takers, 0) if at else None
+
+
+def places_of(row, sessions):
+    """The accesses of these sessions in which a row applies."""
+    return {it for it in accesses(row) if it[0] in sessions}
+
+
+def reached(rows, controls):
+    """The sessions that a tester may come to, from the default session on, who asks the server for 3 by these requests: what the
+    server enters, and each row that no single one before it takes."""
+    found, new = set(), {1}
     while new:
         found |= new
-        new = {row["enter"] for row in rows if "enter" in row and any(session in found for session, _ in accesses(row))} - found
+        own = {3} if any(is_served(rows, request, it) for request in controls for it in ACCESSES if it[0] in found) else set()
+        new = own | {row["enter"] for number, row in enumerate(rows, 1) if "enter" in row and taker(rows, number, found) == 0}
+        new -= found
     return found
-
-
-def uses(row, sessions):
-    """What a row applies to, each request with a session and an unlocked level."""
-    pattern = row["request"].rstrip("*")
-    items = [pattern[at : at + 2] for at in range(0, len(pattern), 2)]
-    has_length = (lambda n: n >= len(items)) if row["request"].endswith("*") else (lambda n: n == len(items))
-    fitting = [it for it in REQUESTS if has_length(len(it)) and all(item == ".." or int(item, 16) == b for item, b in zip(items, it))]
-    return set(itertools.product(fitting, [it for it in accesses(row) if it[0] in sessions]))
 
 
 def compare_rows(folder, rows):
     """Whether `check` says of each row that never applies, but by its own session and level, which earlier one takes all, or
-    that nothing leads to its session."""
+    that nothing leads to its session; and of those for session 3 that 10 83 alone leads there."""
     path = os.path.join(folder, "setup.toml")
     tree = {**GOOD, "answer": rows}
     with open(path, "w", encoding="utf-8") as file:
         file.writelines(f"{key} = {value_text(value)}\n" for key, value in tree.items())
     check = ran("check", path)
     taken = {int(it[1]): int(it[2]) for it in map(TAKEN.match, check.stdout.splitlines()) if it}
-    unreached = {int(it[1]) for it in map(UNREACHED.match, check.stdout.splitlines()) if it}
-    sessions, want = reached(rows), {}
-    every = [uses(row, sessions) for row in rows]
-    for number, own in enumerate(every, 1):
-        takers = [first for first, other in enumerate(every[: number - 1], 1) if own <= other]
-        if own and takers:
-            want[number] = takers[0]
+    unreached, quiet = ({int(it[1]) for it in map(form.match, check.stdout.splitlines()) if it} for form in (UNREACHED, QUIET))
+    sessions, aloud = reached(rows, CONTROLS), reached(rows, CONTROLS[:1])
+    want = {number: first for number in range(1, len(rows) + 1) if (first := taker(rows, number, sessions))}
     far = {number for number, row in enumerate(rows, 1) if row["session"] not in {0, *sessions}}
-    told((taken, unreached) == (want, far), "rows", f"{rows}: {want} and {far} wanted, {check.stdout!r}")
+    by_quiet = {number for number, row in enumerate(rows, 1) if row["session"] == 3 and 3 in sessions - aloud}
+    told((taken, unreached, quiet) == (want, far, by_quiet), "rows", f"{rows}: {want}, {far} and {by_quiet} wanted, {check.stdout!r}")
 
 
 def main():

@@ -14,6 +14,7 @@ mod near;
 mod odd;
 mod pairs;
 mod places;
+mod rule;
 mod sessions;
 mod syntax;
 mod taken;
