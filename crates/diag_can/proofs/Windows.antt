@@ -1,59 +1,75 @@
 -- Sixteen bytes that are each between two.
-use Rattle.std.proofs.Common.{◌≡◌, ℕ, ◌+◌, ◌-◌, ◌/◌, ◌%◌, ◌^◌, ◌<◌, ◌≤◌, ◌==◌, ◌&&◌, nat_le, nat_lt, ltb, bit_or, Bool, true, false, cond, List, [], ◌∷◌, map, length, get_or, refl, sym, ap, ap₂, subst, eqb, ◌∙◌, arith}
+use Rattle.std.proofs.Common.{◌≡◌, ℕ, ◌+◌, ◌-◌, ◌/◌, ◌%◌, ◌^◌, ◌<◌, ◌≤◌, ◌==◌, ◌&&◌, nat_le, nat_lt, ltb, Bool, true, false, cond, List, [], ◌∷◌, map, length, get_or, Fits, w8, refl, sym, ap, ap₂, subst, eqb, ◌∙◌, arith}
 use Rattle.std.proofs.lemmas.Bool.{agree_below, agree_below_at, eqb-true}
 use Rattle.std.proofs.lemmas.Bool.Decides.{nat_tests}
 use Rattle.std.proofs.lemmas.List.{length-map, get_or-map}
 use Rattle.std.proofs.lemmas.Simd.{mask_l-mod, length-chunk, get_or-chunk, bit_mask_l, get_or-zip2, length-zip2}
 use native.Mathlib.Nat.{zero-div}
 use lib.Lanes.{chunk, zip2, mask_l, top}
-use Rattle.diag_can.specs.Lanes.{IsRunIn, IsWithin}
+use Rattle.diag_can.specs.Lanes.{AreBounds, IsRunIn, IsWithin}
 use Rattle.diag_can.specs.Stamp.{is_digit, is_no_space}
 use Rattle.diag_can.specs.Usual.{IsFramed}
 use Rattle.diag_can.proofs.UsualLines.{framed}
 
 -- ---- the lanes
 
+-- a byte less another, as a lane has it
+abbrev pub minus : ℕ → ℕ → ℕ
+minus a b = (a + (256 - b)) % 256
+
 abbrev pub less : ℕ → ℕ → ℕ
 less a b = cond (ltb a b) 255 0
 
 abbrev pub lanes : List ℕ → List ℕ → List ℕ → List ℕ
-lanes v least most = zip2 bit_or (zip2 less v least) (zip2 less most v)
+lanes v least most = zip2 less (zip2 minus most least) (zip2 minus v least)
 
 unset : (b : Bool) → 0 ≡ cond {A = ℕ} b 1 0 → b ≡ false
 unset true is = absurd (omega arith)
 unset false is = refl
 
-neither : (a b : Bool) → top 7 (bit_or (cond a 255 0) (cond b 255 0)) ≡ false → (a ≡ false) × (b ≡ false)
-neither true true is = cc is
-neither true false is = cc is
-neither false true is = cc is
-neither false false is = (refl, refl)
+clear : (b : Bool) → top 7 (cond b 255 0) ≡ false → b ≡ false
+clear true is = cc is
+clear false is = refl
 
-at_least : (a b : ℕ) → ltb a b ≡ false → b ≤ a
-at_least a b is = grind (arith, nat_tests)
+not_less : (a b : ℕ) → ltb a b ≡ false → b ≤ a
+not_less a b is = grind (arith, nat_tests)
+
+-- no further above the least than the most is: between the two
+between : (c least most : ℕ) → c < 256 → least ≤ most → most < 256 → minus c least ≤ minus most least → (least ≤ c) × (c ≤ most)
+between c least most byte ordered few near = (omega (arith, byte, ordered, few, near), omega (arith, byte, ordered, few, near))
 
 pub within : (text least most : List ℕ) (at : ℕ) → at + 16 ≤ length text → length least ≡ 16 → length most ≡ 16
+    → ((k : ℕ) → Fits w8 (get_or text k 0)) → AreBounds least most
     → mask_l (map (top 7) (lanes (chunk at 16 text) least most)) % 2 ^ 64 ≡ 0 → IsWithin text at least most
-within text least most at room sixteen too none j lt =
+within text least most at room sixteen too bytes bounds none j lt =
     let v = chunk at 16 text in
     let long = length-chunk at 16 text room in
     let found = lanes v least most in
     let ms : List Bool = map (top 7) found in
-    let lows = length-zip2 less v least (omega (arith, long, sixteen)) in
-    let highs = length-zip2 less most v (omega (arith, long, too)) in
-    let count = length-zip2 bit_or (zip2 less v least) (zip2 less most v) (omega (arith, lows, highs, long, too)) in
-    let mask : mask_l ms ≡ 0 = sym (mask_l-mod ms 64 (omega (arith, length-map found (top 7), count, lows, long))) ∙ none in
+    let ranges = length-zip2 minus most least (omega (arith, too, sixteen)) in
+    let beyond = length-zip2 minus v least (omega (arith, long, sixteen)) in
+    let count = length-zip2 less (zip2 minus most least) (zip2 minus v least) (omega (arith, ranges, beyond, long, too)) in
+    let mask : mask_l ms ≡ 0 = sym (mask_l-mod ms 64 (omega (arith, length-map found (top 7), count, ranges, too))) ∙ none in
     let bit : 0 ≡ cond {A = ℕ} (get_or ms j false) 1 0 = sym (ap (λ n. n % 2) (zero-div (2 ^ j))) ∙ ap (λ m. m / 2 ^ j % 2) (sym mask) ∙ bit_mask_l ms j in
-    let low = get_or-zip2 less v least j 0 0 0 (omega (arith, long)) (omega (arith, sixteen)) in
-    let high = get_or-zip2 less most v j 0 0 0 (omega (arith, too)) (omega (arith, long)) in
-    let lane : get_or ms j false ≡ top 7 (bit_or (less (get_or v j 0) (get_or least j 0)) (less (get_or most j 0) (get_or v j 0))) =
-    get_or-map (top 7) found j 0 false (omega (arith, count, lows, long))
-    ∙ ap (top 7) (get_or-zip2 bit_or (zip2 less v least) (zip2 less most v) j 0 0 0 (omega (arith, lows, long)) (omega (arith, highs, too))
-    ∙ ap₂ bit_or low high) in
-    let both = neither (ltb (get_or v j 0) (get_or least j 0)) (ltb (get_or most j 0) (get_or v j 0)) (sym lane ∙ unset _ bit) in
-    let here = get_or-chunk at 16 text j 0 (omega (arith, long)) in (
-      subst (λ (x : ℕ). get_or least j 0 ≤ x) here (at_least _ _ both.0),
-      subst (λ (x : ℕ). x ≤ get_or most j 0) here (at_least _ _ both.1),
+    let range = get_or-zip2 minus most least j 0 0 0 (omega (arith, too)) (omega (arith, sixteen)) in
+    let far = get_or-zip2 minus v least j 0 0 0 (omega (arith, long)) (omega (arith, sixteen)) in
+    let lane : get_or ms j false ≡ top 7 (less (minus (get_or most j 0) (get_or least j 0)) (minus (get_or v j 0) (get_or least j 0))) =
+    get_or-map (top 7) found j 0 false (omega (arith, count, ranges, too))
+    ∙ ap (top 7) (get_or-zip2 less (zip2 minus most least) (zip2 minus v least) j 0 0 0 (omega (arith, ranges, too)) (omega (arith, beyond, long))
+    ∙ ap₂ less range far) in
+    let near : minus (get_or v j 0) (get_or least j 0) ≤ minus (get_or most j 0) (get_or least j 0) = not_less _ _ (clear (ltb (minus (get_or most j 0) (get_or least j 0)) (minus (get_or v j 0) (get_or least j 0))) (sym lane ∙ unset _ bit)) in
+    let here = get_or-chunk at 16 text j 0 (omega (arith, long)) in
+    let close : minus (get_or text (at + j) 0) (get_or least j 0) ≤ minus (get_or most j 0) (get_or least j 0) =
+    subst (λ (x : ℕ). minus x (get_or least j 0) ≤ minus (get_or most j 0) (get_or least j 0)) here near in
+    between (get_or text (at + j) 0) (get_or least j 0) (get_or most j 0) (bytes (at + j)).fits (bounds j lt).0 (bounds j lt).1 close
+
+-- of literal bytes it is seen
+pub bounded : (least most : List ℕ)
+    → agree_below (λ k. nat_le (get_or least k 0) (get_or most k 0) && nat_lt (get_or most k 0) 256) (λ _. true) 16 ≡ true → AreBounds least most
+bounded least most all j lt =
+    let here = agree_below_at (λ k. nat_le (get_or least k 0) (get_or most k 0) && nat_lt (get_or most k 0) 256) (λ _. true) 16 j all lt in (
+      grind (arith, nat_tests),
+      grind (arith, nat_tests),
     )
 
 -- ---- a line whose stamp and what is around it are of the usual form

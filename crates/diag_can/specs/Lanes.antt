@@ -16,3 +16,7 @@ pub record IsRunIn (test : ℕ → Bool) (text : List ℕ) (at n run : ℕ) : Ty
 abbrev pub IsWithin : List ℕ → ℕ → List ℕ → List ℕ → Type 0
 IsWithin text at least most = (j : ℕ) → j < 16
     → (slice_index least j ≤ slice_index text (at + j)) × (slice_index text (at + j) ≤ slice_index most j)
+
+-- of sixteen pairs of bytes the first is no more than the second
+abbrev pub AreBounds : List ℕ → List ℕ → Type 0
+AreBounds least most = (j : ℕ) → j < 16 → (slice_index least j ≤ slice_index most j) × (slice_index most j < 256)

@@ -2,7 +2,7 @@
 
 ghost use Rattle.std.specs.Prelude.{◌≡◌, ℕ, ◌+◌, ◌-◌, ◌*◌, ◌≤◌, not, length, drop, IsTrue, IsOk, Ok};
 ghost use Rattle.hex.specs.Hex.{is_hex_digit, decode_of};
-ghost use Rattle.diag_can.specs.Lanes.{IsRunIn, IsWithin, first_set};
+ghost use Rattle.diag_can.specs.Lanes.{AreBounds, IsRunIn, IsWithin, first_set};
 ghost use Rattle.diag_can.specs.Log.{is_feed};
 ghost use Rattle.diag_can.specs.Stamp.{is_mark};
 
@@ -23,13 +23,14 @@ pub fn first_set(mask: u64, lanes: usize) -> usize
 /// Whether each of sixteen bytes is between two.
 #[inline(always)]
 pub fn is_within(text: &[u8], at: usize, least: &[u8; 16], most: &[u8; 16]) -> bool
-    requires { at + 16 ≤ length text.now }
+    requires room { at + 16 ≤ length text.now }
+    requires bounds { AreBounds least.now most.now }
     ensures { IsTrue result → IsWithin text.now at least.now most.now }
 {
-    let v = u8x16::from_slice(&text[at..]);
-    let is_less = v.simd_lt(u8x16::from_array(*least));
-    let is_more = u8x16::from_array(*most).simd_lt(v);
-    (is_less | is_more).to_bitmask() == 0
+    let least = u8x16::from_array(*least);
+    let beyond = u8x16::from_slice(&text[at..]) - least;
+    let range = u8x16::from_array(*most) - least;
+    range.simd_lt(beyond).to_bitmask() == 0
 }
 
 /// How many of these eight bytes are above space, from the first.

@@ -26,10 +26,13 @@ pub const SHORTEST: usize = 28;
 pub fn text_place(line: &[u8]) -> Option<usize>
     ensures { IfSome result (λ place. BeginsFramed line.now place) }
 {
-    if line.len() < SHORTEST
-        || !is_within(line, 0, b"(0000000000.0000", b"(9999999999.9999")
-        || !is_within(line, 4, b"0000000.000000) ", b"9999999.999999) ")
-    {
+    if line.len() < SHORTEST {
+        return None;
+    }
+    // (both looks are taken before one question: no line is usual in one of them alone)
+    let is_front = is_within(line, 0, b"(0000000000.0000", b"(9999999999.9999");
+    let is_back = is_within(line, 4, b"0000000.000000) ", b"9999999.999999) ");
+    if !(is_front & is_back) {
         return None;
     }
     let word = eight_of_word(line, 20);
