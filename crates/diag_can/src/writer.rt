@@ -1,6 +1,6 @@
 //! The lines of the frames that one tester was sent, one behind the other: what they have in common is made once.
 
-ghost use Rattle.std.specs.Prelude.{◌≡◌, ◌<◌, ◌≤◌, ◌+◌, ◌/◌, ◌^◌, ◌++◌, codes, length, take, IfOk, OnOk, OnErr, vec_len, vec_capacity};
+ghost use Rattle.std.specs.Prelude.{◌≡◌, ◌<◌, ◌≤◌, ◌+◌, ◌/◌, ◌^◌, ◌++◌, codes, length, take, IfOk, IsFalse, IsTrue, OnOk, OnErr, vec_len, vec_capacity};
 ghost use Rattle.hex.specs.Hex.{encode_upper};
 ghost use Rattle.diag_can.specs.Reply.{AreFlags, reply_line, stamp};
 
@@ -9,7 +9,7 @@ use crate::hex_text::{add, digits_of_eight};
 use crate::reply::{add_data, flags_digit, identifier, seconds_text, thousandths_text, write_line};
 use std::alloc::{AllocError, Global};
 use std::marker::Model;
-use std::mem;
+use std::mem::{self, ManuallyDrop};
 
 /// More bytes than a line of eight bytes has, of which the front is kept.
 const LINE_ROOM: usize = 64;
@@ -104,17 +104,32 @@ impl KeptStamp {
         }
     }
 
-    /// Goes to another time.
+    /// Goes to another time; whether its seconds have ten digits, so that it can.
     #[inline(always)]
-    fn set(&mut self, at: u64)
+    fn set(&mut self, at: u64) -> bool
+        requires is { IsStamp self.old }
+        ensures is { IsStamp self.new }
+        ensures at { IsTrue result → self.new.at ≡ at }
+        ensures late { IsFalse result → 10 ^ 10 ≤ at / 1000 }
+    {
+        if at == self.at {
+            return true;
+        }
+        if at >= LATE {
+            return false;
+        }
+        self.go_to(at);
+        true
+    }
+
+    /// The same of a time that it isn't at, whose seconds have ten digits.
+    #[inline(always)]
+    fn go_to(&mut self, at: u64)
         requires early { at / 1000 < 10 ^ 10 }
         requires is { IsStamp self.old }
         ensures is { IsStamp self.new }
         ensures at { self.new.at ≡ at }
     {
-        if at == self.at {
-            return;
-        }
         if at < self.second || at - self.second >= 1000 {
             return self.set_all(at);
         }
@@ -214,11 +229,10 @@ impl LineWriter {
         ensures err { OnErr result (text.new.items ≡ text.old.items) }
         ensures name { self.new ≡ self.old }
     {
-        if id != self.id || self.front.len == 0 || at >= LATE {
+        if id != self.id || self.front.len == 0 || !self.stamp.set(at) {
             return write_line(text, self.name.as_slice(), self.flags, at, id, bytes);
         }
         text.reserve(LINE_ROOM)?;
-        self.stamp.set(at);
         let before = text.len();
         let alloc = *text.allocator();
         // (in a variable of its own, so that the text's place and length stay in registers)
@@ -230,7 +244,8 @@ impl LineWriter {
             return add_other(text, before, bytes);
         };
         add_eight(&mut line, eight);
-        *text = line;
+        // (what stood in its place has no memory, and isn't let go)
+        let _ = ManuallyDrop::new(mem::replace(text, line));
         Ok(())
     }
 }

@@ -16,7 +16,7 @@ returns-in_default-clause-ok c =
     let here = c.self.view_is in
     rw (← here) (on_ok_weaker c.add_other.result (λ wrote. line_parts c.args.text.now.items (stamp c.args.at) name (id_text c.args.id) (mark_text inside.flags)
     (encode_upper c.args.bytes.now) c.replace-line.result.items c.add_to.new.text.items c.add_to-2.new.text.items c.add_other.new.text.items before
-    (c.add_to.ensures.items ∙ ap (λ (at : ℕ). c.replace-line.result.items ++ (stamp at ++ codes " ")) c.set.ensures.at)
+    (c.add_to.ensures.items ∙ ap (λ (at : ℕ). c.replace-line.result.items ++ (stamp at ++ codes " ")) (c.set.ensures.at c.if-not-set.false))
     (c.add_to-2.ensures.items ∙ ap (λ (t : List ℕ). c.add_to.new.text.items ++ t) front)
     wrote) c.add_other.ensures.ok)
 
@@ -36,8 +36,9 @@ returns-clause-ok c =
     let before : c.replace-line.result.items ≡ c.args.text.now.items = search rules in
     let bytes : c.in-Some.eight.now ≡ c.args.bytes.now = c.in-Some.ensures.cases.same in
     let here = c.self.view_is in
-    rw (← here, ← bytes) (line_parts c.args.text.now.items (stamp c.args.at) name (id_text c.args.id) (mark_text inside.flags) (encode_upper c.in-Some.eight.now)
+    let put : c.replace.new.dest.items ≡ c.add_eight.new.text.items = search rules in
+    rw (← here, ← bytes, put) (line_parts c.args.text.now.items (stamp c.args.at) name (id_text c.args.id) (mark_text inside.flags) (encode_upper c.in-Some.eight.now)
     c.replace-line.result.items c.add_to.new.text.items c.add_to-2.new.text.items c.add_eight.new.text.items before
-    (c.add_to.ensures.items ∙ ap (λ (at : ℕ). c.replace-line.result.items ++ (stamp at ++ codes " ")) c.set.ensures.at)
+    (c.add_to.ensures.items ∙ ap (λ (at : ℕ). c.replace-line.result.items ++ (stamp at ++ codes " ")) (c.set.ensures.at c.if-not-set.false))
     (c.add_to-2.ensures.items ∙ ap (λ (t : List ℕ). c.add_to.new.text.items ++ t) front)
     c.add_eight.ensures)
