@@ -134,10 +134,8 @@ impl<S: Sink> Bus<S> {
         ensures { (line : List ℕ) → line_said self.old.setup line ≡ Ok said.now
             → AnswersLine S.took S.aim S.written self.old self.new line text.old.items text.new.items result }
     {
-        let time = self.clock.next(said)?;
-        let span = time - self.clock.time;
         // (first: no link's clock is ahead of the bus's, also where the line is refused)
-        self.clock.go_on(said, time);
+        let span = self.clock.go_on(said)?;
         self.node.begin();
         self.node
             .take(&self.setup, &self.ids, span, said, &mut self.sink)?;

@@ -1,8 +1,9 @@
 //! The clock of a recording.
 
 ghost use Rattle.diag_setup.specs.declared.raw.RawSetup.{RawSetup};
-ghost use Rattle.std.specs.Prelude.{◌≡◌, ◌+◌, ◌-◌, ◌≤◌, ◌<◌, ℕ, Some, None, Ok, IfOk, IfErr};
-ghost use Rattle.diag_can.specs.Log.{waited};
+ghost use Rattle.std.specs.Prelude.{◌≡◌, ◌+◌, ◌≤◌, ◌<◌, ℕ, Some, None, Ok, IfOk, IfErr, OnErr, OnOk};
+ghost use Rattle.diag_can.specs.Log.{silence, waited};
+ghost use Rattle.diag_can.specs.declared.log.Timing.TheVariants.{Stamps};
 ghost use Rattle.diag_can.specs.Reading.{later};
 ghost use Rattle.diag_world.specs.Server.{closing_time};
 ghost use Rattle.diag_bus.specs.Clock.{GoesOn, SaidBelow, StartsBelow, started_at};
@@ -44,72 +45,66 @@ impl Clock {
         }
     }
 
-    /// What each tester's clock tells behind a line that says this. Nothing is asked of memory.
+    /// Goes on by a line that says this, and answers by how many milliseconds. Nothing is asked of memory.
     ///
     /// # Errors
-    /// `Late` where that is behind its last time.
+    /// `Late` where each tester's clock would tell a time behind its last one; the clock stays.
     #[inline(always)]
-    pub(crate) fn next(&self, said: &BusLine) -> Result<u64, BusFault>
-        ensures time { IfOk result (λ time.
-            time ≡ self.now.time + span_said self.now.reference (Ok said.now)) }
-        ensures waits { IfOk result (λ time.
-            waited (time - self.now.time) ≡ time_said self.now.reference said.now) }
-        ensures early { IfOk result (λ time. time ≤ closing_time) }
+    pub(crate) fn go_on(&mut self, said: &BusLine) -> Result<u64, BusFault>
+        ensures on { OnOk result ((setup : RawSetup) → GoesOn setup self.old said.now self.new) }
+        ensures span { IfOk result (λ span. span ≡ span_said self.old.reference (Ok said.now)) }
+        ensures waits { IfOk result (λ span. waited span ≡ time_said self.old.reference said.now) }
+        ensures early { OnOk result (self.new.time ≤ closing_time) }
+        ensures start { (most : ℕ) → StartsBelow self.old.start most → SaidBelow said.now most
+            → StartsBelow self.new.start most }
         ensures late { IfErr result (λ fault. (fault ≡ BusFault.Late)
-            × (closing_time < self.now.time + span_said self.now.reference (Ok said.now))) }
+            × (closing_time < self.old.time + span_said self.old.reference (Ok said.now))) }
+        ensures same { OnErr result (self.new ≡ self.old) }
     {
-        let time = self.time.saturating_add(span_of(self.reference, said));
+        match said {
+            BusLine::Empty => self.pass(0),
+            BusLine::Ticks(count) => self.pass(u64::from(count.get())),
+            BusLine::Stamped { moment, frame: _ } => self.go_on_to(moment.ms()),
+        }
+    }
+
+    /// Lets so many milliseconds pass.
+    #[inline(always)]
+    fn pass(&mut self, span: u64) -> Result<u64, BusFault>
+        ensures ok { IfOk result (λ passed. passed ≡ span) }
+        ensures on { OnOk result (self.new ≡ record self.old { time = self.old.time + span }) }
+        ensures early { OnOk result (self.new.time ≤ closing_time) }
+        ensures late { IfErr result (λ fault.
+            (fault ≡ BusFault.Late) × (closing_time < self.old.time + span)) }
+        ensures same { OnErr result (self.new ≡ self.old) }
+    {
+        let time = self.time.saturating_add(span);
         if time > CLOSING_TIME {
             return Err(BusFault::Late);
         }
-        Ok(time)
+        self.time = time;
+        Ok(span)
     }
 
-    /// Goes on by a line, behind which each tester's clock tells this time.
+    /// Goes on by a line of this moment, and answers by how many milliseconds.
     #[inline(always)]
-    pub(crate) fn go_on(&mut self, said: &BusLine, time: u64)
-        requires { time ≡ self.old.time + span_said self.old.reference (Ok said.now) }
-        ensures on { (setup : RawSetup) → GoesOn setup self.old said.now self.new }
-        ensures start { (most : ℕ) → StartsBelow self.old.start most → SaidBelow said.now most
-            → StartsBelow self.new.start most }
-    {
-        match said {
-            BusLine::Empty | BusLine::Ticks(_) => self.time = time,
-            BusLine::Stamped { moment, frame: _ } => self.go_on_to(moment.ms(), time),
-        }
-    }
-
-    /// The same by a line of this moment.
-    #[inline(always)]
-    fn go_on_to(&mut self, moment: u64, time: u64)
-        ensures reference { self.new.reference ≡ later self.old.reference (Some moment) }
-        ensures time { self.new.time ≡ time }
-        ensures start { self.new.start ≡ started_at self.old.start moment self.old.time }
+    fn go_on_to(&mut self, moment: u64) -> Result<u64, BusFault>
+        ensures span { IfOk result (λ span. span ≡ silence Stamps self.old.reference (Some moment)) }
+        ensures reference { OnOk result (self.new.reference ≡ later self.old.reference (Some moment)) }
+        ensures time { OnOk result (self.new.time ≡ self.old.time + silence Stamps self.old.reference (Some moment)) }
+        ensures start { OnOk result (self.new.start ≡ started_at self.old.start moment self.old.time) }
+        ensures early { OnOk result (self.new.time ≤ closing_time) }
+        ensures late { IfErr result (λ fault.
+            (fault ≡ BusFault.Late) × (closing_time < self.old.time + silence Stamps self.old.reference (Some moment))) }
+        ensures same { OnErr result (self.new ≡ self.old) }
     {
         let before = self.time;
-        self.time = time;
-        match self.reference {
-            Some(reference) => self.reference = Some(reference.max(moment)),
-            None => self.reference = Some(moment),
-        }
+        let reference = self.reference.unwrap_or(moment);
+        let span = self.pass(moment.saturating_sub(reference))?;
+        self.reference = Some(reference.max(moment));
         if self.start.is_none() {
             self.start = Some(Start { moment, before });
         }
-    }
-}
-
-/// The milliseconds that a line gives: up to the moment of a stamped line, those from the reference on.
-#[inline(always)]
-fn span_of(reference: Option<u64>, said: &BusLine) -> u64
-    ensures span { result ≡ span_said reference (Ok said.now) }
-    ensures waits { waited result ≡ time_said reference said.now }
-{
-    match said {
-        BusLine::Empty => 0,
-        BusLine::Ticks(count) => u64::from(count.get()),
-        BusLine::Stamped { moment, frame: _ } => {
-            let moment = moment.ms();
-            moment.saturating_sub(reference.unwrap_or(moment))
-        }
+        Ok(span)
     }
 }

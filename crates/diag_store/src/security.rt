@@ -8,6 +8,7 @@ use crate::levels::Levels;
 use diag_setup::{Setup, TesterId};
 use std::alloc::{AllocError, Global};
 use std::marker::Model;
+use std::simd::prelude::*;
 
 /// The seed that is outstanding: the one that a tester was given last. The zeros of an unlocked level are none.
 #[derive(Clone, Copy, PartialEq, Eq, Debug, Drop)]
@@ -199,11 +200,12 @@ impl Security {
         self.state.pass(who, count);
     }
 
-    /// Whether no tester is delayed.
+    /// Whether no tester is delayed: all are looked at together.
     pub fn nobody_is_delayed(&self) -> bool
         ensures { result ≡ nobody_is_delayed self.now }
     {
-        self.state.delays.iter().all(|left| *left == 0)
+        let delays = u32x8::from_array(self.state.delays);
+        delays.simd_ne(u32x8::splat(0)).to_bitmask() == 0
     }
 
     /// Nothing is unlocked and no seed is outstanding.
