@@ -54,7 +54,7 @@ impl Clock {
         ensures on { OnOk result ((setup : RawSetup) → GoesOn setup self.old said.now self.new) }
         ensures span { IfOk result (λ span. span ≡ span_said self.old.reference (Ok said.now)) }
         ensures waits { IfOk result (λ span. waited span ≡ time_said self.old.reference said.now) }
-        ensures early { OnOk result (self.new.time ≤ closing_time) }
+        ensures early { OnOk result (self.old.time + span_said self.old.reference (Ok said.now) ≤ closing_time) }
         ensures start { (most : ℕ) → StartsBelow self.old.start most → SaidBelow said.now most
             → StartsBelow self.new.start most }
         ensures late { IfErr result (λ fault. (fault ≡ BusFault.Late)
@@ -73,7 +73,7 @@ impl Clock {
     fn pass(&mut self, span: u64) -> Result<u64, BusFault>
         ensures ok { IfOk result (λ passed. passed ≡ span) }
         ensures on { OnOk result (self.new ≡ record self.old { time = self.old.time + span }) }
-        ensures early { OnOk result (self.new.time ≤ closing_time) }
+        ensures early { OnOk result (self.old.time + span ≤ closing_time) }
         ensures late { IfErr result (λ fault.
             (fault ≡ BusFault.Late) × (closing_time < self.old.time + span)) }
         ensures same { OnErr result (self.new ≡ self.old) }
@@ -93,7 +93,7 @@ impl Clock {
         ensures reference { OnOk result (self.new.reference ≡ later self.old.reference (Some moment)) }
         ensures time { OnOk result (self.new.time ≡ self.old.time + silence Stamps self.old.reference (Some moment)) }
         ensures start { OnOk result (self.new.start ≡ started_at self.old.start moment self.old.time) }
-        ensures early { OnOk result (self.new.time ≤ closing_time) }
+        ensures early { OnOk result (self.old.time + silence Stamps self.old.reference (Some moment) ≤ closing_time) }
         ensures late { IfErr result (λ fault.
             (fault ≡ BusFault.Late) × (closing_time < self.old.time + silence Stamps self.old.reference (Some moment))) }
         ensures same { OnErr result (self.new ≡ self.old) }
