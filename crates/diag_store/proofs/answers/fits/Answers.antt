@@ -1,4 +1,4 @@
-use Rattle.std.proofs.Common.{◌≡◌, ◌∙◌, sym, arith, ap, ◌||◌, ◌==◌, length}
+use Rattle.std.proofs.Common.{◌∙◌, sym, arith, ap, ◌||◌, ◌==◌, length}
 use Rattle.diag_store.proofs.AnswerLemmas.{fits_short, fits_end}
 use Rattle.diag_store.proofs.answers.fits.Goals as goal
 

@@ -1,4 +1,4 @@
-use Rattle.std.proofs.Common.{◌≡◌, ◌∙◌, sym, ap}
+use Rattle.std.proofs.Common.{◌∙◌, sym, ap}
 use Rattle.std.specs.Prelude.{find}
 use Rattle.diag_store.specs.Answers.{applies}
 use Rattle.diag_store.proofs.SearchLemmas.{found_at, found_nowhere}
