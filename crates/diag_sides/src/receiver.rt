@@ -99,12 +99,12 @@ impl Receiving {
         requires size { length part.now ≡ in_bytes self.old.seen.rx_dl - 1 }
         ensures { self.new.seen ≡ with_bytes self.old.seen part.now }
     {
+        self.count += 1;
+        self.silence = 0;
         match &mut self.held {
             PartialBytes::Growing(bytes) => add_part(bytes, part),
             PartialBytes::Staged(_) => unreachable!(),
         }
-        self.count += 1;
-        self.silence = 0;
     }
 
     /// Stages the message with the bytes of the last Consecutive. What is seen of the reception stays.
@@ -551,19 +551,43 @@ pub fn go_on(setup: &LinkSetup) -> FrameBytes
     )
 }
 
-/// Adds the part of a Consecutive that isn't the last, where there is room: mostly there are seven bytes, which are read before
-/// any is written.
+/// Adds the part of a Consecutive that isn't the last, where there is room: mostly there are seven bytes, and room for the
+/// last part, too. Then nothing is called.
 #[inline(always)]
 fn add_part(bytes: &mut Vec<u8>, part: &[u8])
     requires room { length bytes.old.items + length part.now ≤ vec_capacity bytes.old }
     ensures items { bytes.new.items ≡ bytes.old.items ++ part.now }
     ensures kept { vec_capacity bytes.old ≤ vec_capacity bytes.new }
 {
-    let added = match part.as_array::<7>() {
-        Some(&seven) => bytes.extend_from_slice(&seven),
-        None => bytes.extend_from_slice(part),
-    };
-    let taken = added.is_ok();
+    match part.as_array::<7>() {
+        Some(seven) if bytes.capacity() - bytes.len() >= 8 => add_seven(bytes, seven),
+        _ => add_all(bytes, part),
+    }
+}
+
+/// Adds seven bytes, where there is room for eight: with an eighth, which is taken back, they go by registers, and not by the
+/// stack.
+#[inline(always)]
+fn add_seven(bytes: &mut Vec<u8>, seven: &[u8; 7])
+    requires room { length bytes.old.items + 8 ≤ vec_capacity bytes.old }
+    ensures items { bytes.new.items ≡ bytes.old.items ++ seven.now }
+    ensures kept { vec_capacity bytes.old ≤ vec_capacity bytes.new }
+{
+    let [a, b, c, d, e, f, g] = *seven;
+    let taken = bytes.extend_from_slice(&[a, b, c, d, e, f, g, 0]).is_ok();
+    prove!(taken);
+    bytes.take_last();
+}
+
+/// Adds any bytes, where there is room.
+#[cold]
+#[inline(never)]
+fn add_all(bytes: &mut Vec<u8>, part: &[u8])
+    requires room { length bytes.old.items + length part.now ≤ vec_capacity bytes.old }
+    ensures items { bytes.new.items ≡ bytes.old.items ++ part.now }
+    ensures kept { vec_capacity bytes.old ≤ vec_capacity bytes.new }
+{
+    let taken = bytes.extend_from_slice(part).is_ok();
     prove!(taken);
 }
 
