@@ -315,7 +315,11 @@ impl Link {
             self.sender
                 .flow(&self.setup, flow_status, block_size, st_min);
         }
-        self.grant = self.receiver.take(&self.setup, pci);
+        // (each in its arm: where there is none, no bytes are copied)
+        match self.receiver.take(&self.setup, pci) {
+            Some(frame) => self.grant = Some(frame),
+            None => self.grant = None,
+        }
     }
 
     /// So many ticks, before the last of which nothing falls due.

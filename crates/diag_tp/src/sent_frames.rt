@@ -1,11 +1,10 @@
 //! Lists of frames that were sent.
 
-ghost use Rattle.std.specs.Prelude.{◌≡◌, ◌<◌, ◌≤◌, ◌+◌, ◌++◌, [], ◌∷◌, length, slice_get, Some, OnOk, IfOk, IsTrue, ◌↔◌, ◌^◌, vec_capacity};
+ghost use Rattle.std.specs.Prelude.{◌≡◌, ◌<◌, ◌≤◌, ◌+◌, ◌++◌, [], ◌∷◌, length, slice_get, Some, OnOk, IfOk, IsTrue, ◌↔◌, ◌^◌, vec_len, vec_capacity};
 ghost use Rattle.diag_tp.specs.declared.sent.Sent.{Sent as ASent};
 ghost use Rattle.diag_tp.specs.SentFrames.{HasRoom};
 
-use crate::sent::Sent;
-use diag_can::{CanId, FdBytes, Frame};
+use diag_can::{CanId, FdBytes, Frame, FrameBytes};
 use diag_pdu::DataLength;
 use std::alloc::{AllocError, Global};
 use std::marker::Model;
@@ -17,6 +16,37 @@ pub struct FdFrame {
     pub id: CanId,
     /// Its data, up to 64 bytes.
     pub bytes: FdBytes,
+}
+
+/// A classic frame, and the time in ticks at which it goes. Each field is written as one word, and nothing is between them.
+#[derive(Drop)]
+struct ShortSent {
+    at: u64,
+    id: CanId,
+    len: u32,
+    bytes: [u8; 8],
+}
+
+impl Model for ShortSent {
+    ghost use Rattle.std.specs.Prelude.{take, ◌≤◌};
+    ghost use Rattle.diag_tp.specs.declared.sent.Sent.{Sent as ASent};
+
+    ghost Value = { ASent };
+
+    ghost view = { λ s. record { at = s.at; frame = record { id = s.id; bytes = take s.len s.bytes } } };
+
+    ghost invariant = { λ s. s.len ≤ 8 };
+}
+
+impl ShortSent {
+    /// The bytes of the frame.
+    #[inline(always)]
+    fn as_slice(&self) -> &[u8]
+        ensures bytes { result.now ≡ self.now.frame.bytes }
+        ensures fits { length result.now ≤ 8 }
+    {
+        &self.bytes[..self.len as usize]
+    }
 }
 
 /// A frame of either kind, and the time in ticks at which it goes.
@@ -37,7 +67,7 @@ impl Model for LongSent {
 /// Frames of up to 8 bytes, or of up to 64.
 #[derive(Drop)]
 enum FrameList {
-    Short(Vec<Sent>),
+    Short(Vec<ShortSent>),
     Long(Vec<LongSent>),
 }
 
@@ -93,14 +123,13 @@ impl SentFrames {
         ensures long_room { self.old.long_room ≤ self.new.long_room + 1 }
     {
         match &mut self.list {
-            FrameList::Short(list) => list.push_reserved(Sent { at, frame }),
-            FrameList::Long(list) => list.push_reserved(LongSent {
+            FrameList::Short(list) => list.push_reserved(ShortSent {
                 at,
-                frame: FdFrame {
-                    id: frame.id,
-                    bytes: FdBytes::of_short(&frame.bytes),
-                },
+                id: frame.id,
+                len: frame.bytes.len() as u32,
+                bytes: *frame.bytes.places(),
             }),
+            FrameList::Long(list) => push_lengthened(list, at, frame.id, frame.bytes),
         }
     }
 
@@ -165,8 +194,8 @@ impl SentFrames {
                 let sent = &list[index];
                 SentFrame {
                     at: sent.at,
-                    id: sent.frame.id,
-                    bytes: sent.frame.bytes.as_slice(),
+                    id: sent.id,
+                    bytes: sent.as_slice(),
                 }
             }
             FrameList::Long(list) => {
@@ -203,10 +232,29 @@ impl<'a> Model for SentFrame<'a> {
     ghost invariant = { λ s. length s.bytes.now ≤ 64 };
 }
 
+/// Adds a classic frame of these bytes, where longer ones have room, too.
+#[cold]
+#[inline(never)]
+fn push_lengthened(list: &mut Vec<LongSent>, at: u64, id: CanId, bytes: FrameBytes)
+    requires { vec_len list.old < vec_capacity list.old }
+    ensures items { list.new.items ≡ list.old.items
+        ++ record { at = at; frame = record { id = id; bytes = bytes } } ∷ [] }
+    ensures len { vec_len list.new ≡ vec_len list.old + 1 }
+    ensures capacity { vec_capacity list.new ≡ vec_capacity list.old }
+{
+    list.push_reserved(LongSent {
+        at,
+        frame: FdFrame {
+            id,
+            bytes: FdBytes::of_short(&bytes),
+        },
+    });
+}
+
 /// These frames where longer ones have room, too, and room for so many more.
 #[cold]
 #[inline(never)]
-fn lengthened(list: &[Sent], alloc: Global, count: usize) -> Result<Vec<LongSent>, AllocError>
+fn lengthened(list: &[ShortSent], alloc: Global, count: usize) -> Result<Vec<LongSent>, AllocError>
     ensures { IfOk result (λ longer. (longer.items ≡ list.now)
         × (length list.now + count ≤ vec_capacity longer)) }
 {
@@ -215,8 +263,8 @@ fn lengthened(list: &[Sent], alloc: Global, count: usize) -> Result<Vec<LongSent
         longer.push_reserved(LongSent {
             at: sent.at,
             frame: FdFrame {
-                id: sent.frame.id,
-                bytes: FdBytes::of_short(&sent.frame.bytes),
+                id: sent.id,
+                bytes: FdBytes::from_slice(sent.as_slice()),
             },
         });
     }
