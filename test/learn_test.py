@@ -1077,6 +1077,14 @@ class OfRecordings(unittest.TestCase):
         self.assertNotIn("FlowControl wait", found.text)
         self.assertEqual((0, "tester_7E0 3 frames agree\n"), judged("verify", found, lines)[:2])
 
+    def test_flow_control_that_changes_is_told(self) -> None:
+        """What was seen most often counts."""
+        write = lambda at, flow: [(at, "7E0#10082EF190414141"), (at + 3, f"7E8#30{flow}"), (at + 9, "7E0#214141"), (at + 12, "7E8#036EF190")]
+        found = learned_of(frames(*write(0, "0005"), *write(100, "0814"), *write(200, "0814"), (300, "123#00")))
+        self.assertEqual((0, "", 8, 20), (found.status, found.told, found.tree()["block_size"], found.tree()["st_min"]))
+        self.assertIn("\n# block size and STmin of the unit changed: 8 and 0x14 2 times, 0 and 0x05 once; the first are taken\nblock_size = 8\n", found.text)
+        self.assertNotIn("changed", learned_of(frames(*write(0, "0814"), *write(100, "0814"), (200, "123#00"))).text)
+
     def test_an_answer_that_is_slow_in_one_session(self) -> None:
         """In the others it is as prompt as it was."""
         clear, slow, session = ("14FFFFFF", "7F1431"), ("14FFFFFF", "7F1478", "54"), ("1003", "5003003201F4")

@@ -275,7 +275,8 @@ class Broken:
 
 @dataclass
 class Sending:
-    """How the unit and its testers send: the padding byte, None for none; block size and STmin of the unit's flow control;
+    """How the unit and its testers send: the padding byte, None for none; block size and STmin of the unit's flow control, and how
+    often it had which;
     the longest request that it didn't refuse by that, and the shortest that it did, None where it refused none; the longest
     time within a request, and that for which an answer waited for flow control, in milliseconds; which messages of the unit
     are broken; when it sent FlowControl wait; and of its frames of CAN FD the length of FirstFrames, the flags, and the byte
@@ -284,6 +285,7 @@ class Sending:
     pad: Optional[int] = 0xCC
     block_size: int = 0
     st_min: int = 0
+    flows: Counter = field(default_factory=Counter)
     longest: int = 0
     too_long: Optional[int] = None
     n_cr: int = 0
@@ -402,6 +404,7 @@ class Flows:
         """The flow control that was seen most often counts."""
         if self.let:
             (found.block_size, found.st_min), _ = self.let.most_common(1)[0]
+        found.flows = self.let
         found.paused = self.paused
         refused = self.lengths["2"] - self.lengths["0"]
         found.longest = max(self.lengths[""] - refused, default=0)

@@ -176,6 +176,7 @@ def unit_keys(unit: Unit) -> Iterator[str]:
     yield f"p2_ms = {unit.p2}\np2_star_10ms = {unit.p2_star // 10}\ns3_ms = {unit.s3}\n"
     yield from waits(sending)
     yield from paused(sending)
+    yield from changed_flow(sending)
     yield f"block_size = {sending.block_size}\nst_min = 0x{sending.st_min:02X}\n"
     yield from longest_request(sending)
     yield from filling(unit)
@@ -219,6 +220,13 @@ def paused(sending: Sending) -> Iterator[str]:
     """That the unit sent FlowControl wait, which no setup has."""
     if sending.paused:
         yield f"# FlowControl wait: seen {times(len(sending.paused))}, first at {moment(sending.paused[0])}; the server sends none\n"
+
+
+def changed_flow(sending: Sending) -> Iterator[str]:
+    """That the unit's block size or STmin changed, which they can't in a setup."""
+    if len(sending.flows) > 1:
+        seen = ", ".join(f"{block_size} and 0x{st_min:02X} {times(count)}" for (block_size, st_min), count in sending.flows.most_common())
+        yield commented(f"block size and STmin of the unit changed: {seen}; the first are taken")
 
 
 def free_identifier(unit: Unit, is_extended: bool = False) -> int:
