@@ -4,7 +4,7 @@ use crate::fault::Fault;
 use crate::feed::{Feed, FeedFault};
 use crate::frames::{BusText, Frames, NoFrames};
 use crate::journal::{Journal, JournalText, NoJournal};
-use crate::lines::{CanFrame, Line, LineFault, Lines, MOST_TICKS};
+use crate::lines::{CanFrame, Known, Line, LineFault, Lines, MOST_TICKS};
 use crate::link::NEVER;
 use crate::server::Server;
 use crate::setup::Setup;
@@ -85,19 +85,35 @@ impl Written for JournalText<Outlet, true> {
     }
 }
 
-/// For whom a frame is, by its identifier; one of the unit's own is to a tester.
+/// For whom a frame is, by its identifier: a functional one is of several testers, a bit for each; one of the unit's own
+/// is to a tester.
 #[derive(Clone, Copy)]
 enum For {
     Nobody,
-    All,
+    Testers(u8),
     Tester(u8),
     Unit(u8),
+}
+
+/// Returns for whom frames are, by the keys of their identifiers.
+fn by_key(setup: &Setup, known: &Known) -> Vec<For> {
+    let mut all = vec![For::Nobody; known.keys()];
+    for (who, tester) in setup.testers.iter().enumerate() {
+        let at = |id| known.key(id) as usize;
+        all[at(tester.request)] = For::Tester(who as u8);
+        all[at(tester.response)] = For::Unit(who as u8);
+        let functional = &mut all[at(tester.functional)];
+        let before = if let For::Testers(them) = *functional { them } else { 0 };
+        *functional = For::Testers(before | 1 << who);
+    }
+    all
 }
 
 /// Nothing falls due before the moment `due`; all testers' clocks tell `now`.
 struct Bus<F, J> {
     server: Server<F, J>,
-    by_id: Vec<For>,
+    known: Known,
+    by_key: Vec<For>,
     now: u64,
     due: u64,
     reference: Option<u64>,
@@ -106,13 +122,10 @@ struct Bus<F, J> {
 
 impl<F: Frames + Written, J: Journal + Written> Bus<F, J> {
     fn new(setup: &Setup, frames: F, journal: J) -> Self {
-        let mut by_id = vec![For::Nobody; 0x800];
-        by_id[setup.functional as usize] = For::All;
-        for (who, tester) in setup.testers.iter().enumerate() {
-            by_id[tester.request as usize] = For::Tester(who as u8);
-            by_id[tester.response as usize] = For::Unit(who as u8);
-        }
-        Bus { server: Server::new(setup, frames, journal), by_id, now: 0, due: NEVER, reference: None, lines: 0 }
+        let known = Known::of(&setup.testers);
+        let by_key = by_key(setup, &known);
+        let server = Server::new(setup, frames, journal);
+        Bus { server, known, by_key, now: 0, due: NEVER, reference: None, lines: 0 }
     }
 
     /// Takes a capture to its end. Before more is read all whole lines were taken, and what they draw was written.
@@ -139,7 +152,7 @@ impl<F: Frames + Written, J: Journal + Written> Bus<F, J> {
         let mut frame = CanFrame::default();
         loop {
             let from = lines.at();
-            let Some(line) = lines.next::<true>(&mut frame) else { return Ok(()) };
+            let Some(line) = lines.next::<true>(&self.known, &mut frame) else { return Ok(()) };
             self.lines += 1;
             if line.is_err() || lines.at() - from > LINE_BYTES {
                 self.check(line.as_ref().err(), &piece[from..])?;
@@ -167,10 +180,13 @@ impl<F: Frames + Written, J: Journal + Written> Bus<F, J> {
     fn stamped(&mut self, moment: u64, frame: Option<&CanFrame>) {
         self.tell(moment);
         if let Some(frame) = frame {
-            match self.by_id[frame.id as usize & 0x7FF] {
+            match self.by_key[frame.key as usize] {
                 For::Nobody => {}
                 For::Tester(who) => self.frame(who as usize, false, frame.bytes()),
-                For::All => (0..self.server.testers()).for_each(|who| self.frame(who, true, frame.bytes())),
+                For::Testers(them) => {
+                    let testers = (0..self.server.testers()).filter(|who| them >> who & 1 == 1);
+                    testers.for_each(|who| self.frame(who, true, frame.bytes()));
+                }
                 For::Unit(who) => self.own(who as usize, frame.bytes()),
             }
         }

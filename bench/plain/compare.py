@@ -8,12 +8,12 @@
     bench/plain/compare.py --seed N                other random frames
     bench/plain/compare.py --bytes                 only whether both write the same bytes
 
-The workloads are those of bench/workloads.py, without those of a tester of 29 bits and of `compare`, which the twin doesn't
-know. For each it is seen that both write the same bytes (with the journal and the end too, where the command has them), and a row in
-Markdown tells the instructions of each for a line more (by valgrind's callgrind, of two short runs the difference), the
-processor's nanoseconds for a line more (its own and the system's for it: the least of fifteen runs, in which the two take
-turns, less the least of runs with a tenth of the lines), the most memory of each in KiB (of five runs, each looked at five
-times a millisecond), and how many times the twin's the program's are. The last row has the geometric means of these.
+The workloads are those of bench/workloads.py, without those of `compare`, which the twin doesn't know. For each it is seen
+that both write the same bytes (with the journal and the end too, where the command has them), and a row in Markdown tells
+the instructions of each for a line more (by valgrind's callgrind, of two short runs the difference), the processor's
+nanoseconds for a line more (its own and the system's for it: the least of fifteen runs, in which the two take turns, less
+the least of runs with a tenth of the lines), the most memory of each in KiB (of five runs, each looked at five times a
+millisecond), and how many times the twin's the program's are. The last row has the geometric means of these.
 Instructions are the same in each run; times feel what else the machine does. The twin is built by the line that stands in
 main.rs, which wants `rustc`.
 """
@@ -125,7 +125,7 @@ def main():
     options.add_argument("--seed", type=int, default=1)
     options.add_argument("--bytes", action="store_true")
     given = options.parse_args()
-    known = {name: it for name, it in module.workloads(given.seed).items() if "tester of 29 bits" not in name and it[0] != ["compare"]}
+    known = {name: it for name, it in module.workloads(given.seed).items() if it[0] != ["compare"]}
     works = {name: it for name, it in known.items() if any(word in name for word in given.only)}
     same, ratios = 0, []
     if not given.bytes:

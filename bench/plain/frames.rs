@@ -1,7 +1,7 @@
 //! The frames that the server sends, as the lines that `candump -L` would write of them.
 
 use crate::hex;
-use crate::setup::Setup;
+use crate::setup::{Id, Setup};
 use crate::text::{Decimal, Outlet, Pages, Paper};
 
 /// What becomes of the frames that are sent.
@@ -22,8 +22,8 @@ struct ReplyLine {
 }
 
 impl ReplyLine {
-    fn new(name: &str, response: u16) -> ReplyLine {
-        let behind_stamp = format!("000) {name} {response:03X}#").into_bytes();
+    fn new(name: &str, response: Id) -> ReplyLine {
+        let behind_stamp = format!("000) {name} {response}#").into_bytes();
         let mut line = ReplyLine { bytes: [0; LONGEST], point: 0, head: 0, time: 0, behind_stamp };
         line.set_second(0);
         line

@@ -14,6 +14,27 @@ import tempfile
 NAMES = "ABCDEFGH"
 
 
+class Tester:
+    """A tester's identifiers, as lines have them, and its table in the setup."""
+
+    def __init__(self, dice, at):
+        wide = dice.random() < 0.35
+        request = dice.choice([0x18DA10F1 + 0x100 * at, 0x1FFFFFFF - 2 * at, 0x7E0 + at]) if wide else 0x7E0 + at
+        response = dice.choice([0x18DAF110 + at, 0x1FFFFFFE - 2 * at, 0x7E8 + at]) if wide else 0x7E8 + at
+        functional = dice.choice([None, None, None, *([0x18DB33F1, 0x18DB3301, 0x7DF, 0] if wide else [0x7DF, 0x700, 1])])
+        # now and then one that isn't allowed
+        if dice.random() < 0.01:
+            request, response, functional = (dice.choice([it, 0x7E1, 0x800, 0x18DB33F1, 0x20000000]) for it in (request, response, functional))
+        digits = 8 if wide else 3
+        self.own, self.response = f"{request:0{digits}X}", f"{response:0{digits}X}"
+        self.functional = f"{(0x18DB33F1 if wide else 0x7DF) if functional is None else functional:0{digits}X}"
+        keys = [f'name = "{NAMES[at]}{"x" * dice.choice([0, 3, 15])}"', f"request = {request}", f"response = {response:#x}"]
+        keys += ["extended = true"] if wide else dice.choice([[], [], ["extended = false"]])
+        keys += [f"functional = {functional}"] if functional is not None else []
+        dice.shuffle(keys)
+        self.table = "\n".join(["[[tester]]", *keys])
+
+
 def setup(dice, testers):
     keys = [f"delay_ms = {dice.choice([1, 7, 50, 2000])}", f"attempts = {dice.choice([1, 2, 3])}"]
     keys += [f"s3_ms = {dice.choice([1, 20, 300, 5000])}", f"availability = {dice.choice([255, 0x2F, 0])}"]
@@ -21,7 +42,7 @@ def setup(dice, testers):
     keys += [f"block_size = {dice.choice([0, 0, 1, 2, 8])}", f"st_min = {dice.choice([0, 5, 127, 241, 249])}"]
     keys += [f"max_request = {dice.choice([8, 100, 4095, 65535])}", f"pad = {dice.choice(['true', 'false'])}"]
     keys += [f"pad_byte = {dice.choice([0xCC, 0, 0x55])}", f"p2_ms = {dice.randrange(65536)}"]
-    rows = [f'[[tester]]\nname = "{NAMES[it]}{"x" * dice.choice([0, 3, 15])}"\nrequest = {0x7E0 + it}\nresponse = {0x7E8 + it}' for it in range(testers)]
+    rows = [it.table for it in testers]
     level = lambda: dice.choice([0, 0, 1, 3])
     for did, size in ((0xF190, 17), (0x0100, 1), (0x0101, 255), (0x0102, 4)):
         rows.append(f'[[did]]\nid = {did}\nvalue = "{dice.randbytes(size).hex()}"\nread_level = {level()}\nwrite = {dice.choice(["true", "false"])}\nwrite_level = {level()}')
@@ -72,8 +93,16 @@ def flow(dice, own):
 
 
 FOREIGN = ["123#DEADBEEF", "18DB33F1#0210030000000000", "7E0#R8", "7E0##1021001", "7E8#065003003201F4", "7FF#", "00000000#zz"]
+FOREIGN += ["18FEF100#0102030405060708", "000007E0#023E00", "18da10f1#03220100", "18DAF110#065003003201F4", "20000004#00#", "FFFFFFFF#R", "18DB33F1##1"]
 WRONG = ["7E0#023", "7E0#021003000000000000", "800#00", "FFF#R", "7E0#02G", "07E0#00", "7E0#021003_9", "7E0#023E00AAAAAAAAAA_", "7E0", ""]
+WRONG += ["018DA10F1#00", "8DA10F1#00", "18DA10F1", "18FEF1`0#00", "18FEF1@0#00", "\x118FEF100#00", "18FEF10G#00", "18FEF100R8", "é8FEF10#00"]
 BAD = ["tick 0", "tick 60001", "tick 01", "tick  5", "tickle", "tick 5 ", "can0 7E0#00", "(0.00000) can0 7E0#00", "(1.000000)can0 7E0#00", "(0.000000) 7E0#00", "\r", "x" * 5000, "(1.0000000000) can0 7E0#00"]
+
+
+def changed(dice, text):
+    """The text with another character at one place."""
+    at = dice.randrange(len(text) + 1)
+    return text[:at] + dice.choice("0123456789ABCDEFabcdef#R_ gG`@/:\x10\x7f") + text[at + 1 :]
 
 
 def lines(dice, testers, count, faults):
@@ -81,24 +110,25 @@ def lines(dice, testers, count, faults):
     now = dice.choice([0, 1_000_000_000, 999_999_999, 99_999_999_999]) * 1_000_000
     made = []
     while len(made) < count:
-        own = f"{0x7E0 + dice.choice(testers):03X}"
+        tester = dice.choice(testers)
+        own = tester.own
         kind = dice.random()
         if kind < 0.35:
             texts = frames(dice, own, request(dice))
         elif kind < 0.5:
             texts = [flow(dice, own)]
         elif kind < 0.6:
-            texts = frames(dice, "7DF", request(dice)[:14])
+            texts = frames(dice, tester.functional, request(dice)[:14])
         elif kind < 0.7:
             texts = [f"tick {dice.choice([1, 2, 5, 10, 30, 999, 1000, 60000])}", "tick"][: dice.randrange(1, 3)]
         elif kind < 0.8:
-            texts = [f"{dice.choice([own, own.lower(), '7DF'])}#{dice.randbytes(dice.randrange(9)).hex()}"]
+            texts = [f"{dice.choice([own, own.lower(), tester.functional, tester.response])}#{dice.randbytes(dice.randrange(9)).hex()}"]
         elif kind < 0.82:
             texts = [""]
         else:
             texts = [dice.choice(FOREIGN)]
         if faults and dice.random() < 0.01:
-            texts.append(dice.choice(WRONG))
+            texts.append(dice.choice([dice.choice(WRONG), changed(dice, texts[-1]), tester.own + "#023"]))
         for text in texts:
             end = dice.choice(["\n"] * 9 + ["\r\n"])
             if faults and dice.random() < 0.003:
@@ -110,7 +140,7 @@ def lines(dice, testers, count, faults):
             whole = f"{max(now, 0) // 1_000_000}".zfill(dice.choice([10, 10, 10, 1, 12]))
             part = f"{max(now, 0) % 1_000_000:06d}{dice.choice(['', '', '', '000'])}"
             tail = dice.choice(["", "", "", " R", " T x"]) if "R8" not in text else ""
-            if len(text) == 20 and dice.random() < 0.2:
+            if len(text.partition("#")[2]) == 16 and dice.random() < 0.2:
                 tail = f"_9{tail}"
             gap = dice.choice([" ", " ", "   "])
             made.append(f"({whole}.{part}){gap}{dice.choice(['can0', 'vcan1'])}{gap}{text}{tail}{end}")
@@ -126,17 +156,26 @@ def ran(program, words, text=None):
     return it.returncode, it.stdout, told
 
 
+def without_replies(capture, testers):
+    """A capture without the frames of the unit that it has already."""
+    own = [f" {it.response}#" for it in testers]
+    return "".join(line for line in capture.splitlines(keepends=True) if not any(it in line.upper() for it in own))
+
+
 def with_replies(dice, capture, replies):
-    """A capture with the server's replies among its lines, in order, now and then with one that is wrong or missing."""
-    mixed, replies = [], replies.splitlines(keepends=True)
+    """A capture with the server's replies among its lines or behind them, in order, now and then with one that is wrong or
+    missing."""
     wrong = dice.choice([0, 0, 0.01])
+    kept = lambda it: it if dice.random() >= wrong else dice.choice(["", it.strip()[:-2] + "\n", it.strip()[:-2] + "5A\n"])
+    mixed, replies = [], replies.splitlines(keepends=True)
     lines = capture.splitlines(keepends=True)
+    behind = dice.random() < 0.5
     for number, line in enumerate(lines):
         mixed.append(line)
-        due = max(0, (number - dice.choice([0, 3, 16])) * len(replies) // len(lines))
-        mixed += [it if dice.random() >= wrong else dice.choice(["", it.strip()[:-2] + "\n"]) for it in replies[:due]]
+        due = 0 if behind else max(0, (number - dice.choice([0, 3, 16])) * len(replies) // len(lines))
+        mixed += map(kept, replies[:due])
         replies = replies[due:]
-    return "".join(mixed)
+    return "".join(mixed) + "".join(["" if mixed[-1].endswith("\n") else "\n", *map(kept, replies)])
 
 
 def case(dice, room, programs, counts):
@@ -154,10 +193,10 @@ def case(dice, room, programs, counts):
             it.write(text if isinstance(text, bytes) else text.encode())
         return f"{room.name}/{name}"
 
-    testers = dice.choice([1, 1, 2, 3, 8])
+    testers = [Tester(dice, it) for it in range(dice.choice([1, 1, 2, 3, 8]))]
     config = put("setup", setup(dice, testers))
     faults = dice.random() < 0.3
-    logs = [put(f"{it}.log", lines(dice, [it], dice.randrange(1, 200), faults)) for it in range(testers)]
+    logs = [put(f"{at}.log", lines(dice, [it], dice.randrange(1, 200), faults)) for at, it in enumerate(testers)]
     stamps = dice.choice([[], ["--stamps"]])
     same("serial", *stamps, config, *logs)
     status, journal, _ = same("serial", *stamps, "--journal", config, *logs)
@@ -175,13 +214,17 @@ def case(dice, room, programs, counts):
         elif change == "twice":
             texts.insert(at, texts[at])
         same("replay", config, put("journal", b"\n".join(texts)[: -1 if change == "cut" else None]))
-    capture = lines(dice, range(testers), dice.randrange(1, 600), faults)
+    capture = lines(dice, testers, dice.randrange(1, 600), faults)
     path = put("capture", capture)
     for flags in ([], ["--journal"], ["--end"]):
         same("bus", *flags, config, path)
     same("bus", config, text=capture.encode())
-    recorded = with_replies(dice, capture, ran(programs[0], ["bus", config, path])[1].decode())
-    if recorded != capture:
+    if dice.random() < 0.5:
+        capture = without_replies(capture, testers)
+        path = put("capture", capture)
+    replies = ran(programs[0], ["bus", config, path])[1].decode()
+    recorded = with_replies(dice, capture, replies) if capture and replies else capture
+    if recorded.count("\n") > capture.count("\n") + 1:
         same("verify", config, put("recorded", recorded))
 
 

@@ -1,14 +1,50 @@
 //! The lines of a log and of a capture, in the notation of `candump -L`.
 
 use crate::hex::{self, DIGIT};
+use crate::setup::{Id, Tester};
 
 /// The most ticks of one event.
 pub const MOST_TICKS: u16 = 60_000;
 
-/// A data frame with an identifier of 11 bits.
+/// How many identifiers of 11 bits there are.
+const SHORT_IDS: usize = 0x800;
+
+/// The identifiers that are read: all of 11 bits, and those of 29 that testers have. Each has a key: one of 11 bits its
+/// number, one of 29 its place behind these.
+pub struct Known {
+    wide: Vec<u64>,
+}
+
+impl Known {
+    pub fn of<'a>(testers: impl IntoIterator<Item = &'a Tester>) -> Known {
+        let ids = testers.into_iter().flat_map(|it| [it.request, it.response, it.functional]);
+        let wide = ids.filter(|it| matches!(it, Id::Wide(_))).map(folded);
+        Known { wide: wide.collect() }
+    }
+
+    /// Returns how many keys there are.
+    pub fn keys(&self) -> usize {
+        SHORT_IDS + self.wide.len()
+    }
+
+    /// Returns the key of an identifier that is read.
+    pub fn key(&self, id: Id) -> u16 {
+        match id {
+            Id::Short(number) => number,
+            Id::Wide(_) => self.wide_key(folded(id)).unwrap_or(0),
+        }
+    }
+
+    #[inline]
+    fn wide_key(&self, digits: u64) -> Option<u16> {
+        self.wide.iter().position(|&it| it == digits).map(|it| (SHORT_IDS + it) as u16)
+    }
+}
+
+/// A data frame, with its identifier's key.
 #[derive(Clone, Copy, Default)]
 pub struct CanFrame {
-    pub id: u16,
+    pub key: u16,
     len: u8,
     bytes: [u8; 8],
 }
@@ -51,9 +87,9 @@ impl<'a> Lines<'a> {
 
     /// Takes a line and says what it is; its frame is left in `frame`. `TIMED` tells whether its moment is wanted.
     #[inline(always)]
-    pub fn next<const TIMED: bool>(&mut self, frame: &mut CanFrame) -> Option<Result<Line, LineFault>> {
+    pub fn next<const TIMED: bool>(&mut self, known: &Known, frame: &mut CanFrame) -> Option<Result<Line, LineFault>> {
         match self.peek()? {
-            b'(' => Some(self.stamped::<TIMED>(frame)),
+            b'(' => Some(self.stamped::<TIMED>(known, frame)),
             b't' if self.text[self.at..].starts_with(b"tick") => {
                 self.at += 4;
                 Some(self.ticks().ok_or(LineFault::BadTick))
@@ -64,6 +100,16 @@ impl<'a> Lines<'a> {
 
     /// Takes the rest of a line, whatever it is.
     pub fn skip(&mut self) {
+        while let Some(&eight) = self.text[self.at..].first_chunk() {
+            let bytes = u64::from_le_bytes(eight) ^ u64::from_le_bytes([b'\n'; 8]);
+            // the lowest byte that is 0 gets its highest bit
+            let ends = bytes.wrapping_sub(0x0101_0101_0101_0101) & !bytes & 0x8080_8080_8080_8080;
+            if ends != 0 {
+                self.at += ends.trailing_zeros() as usize / 8 + 1;
+                return;
+            }
+            self.at += 8;
+        }
         let rest = &self.text[self.at..];
         self.at += rest.iter().position(|&it| it == b'\n').map_or(rest.len(), |it| it + 1);
     }
@@ -107,13 +153,13 @@ impl<'a> Lines<'a> {
     }
 
     #[inline(always)]
-    fn stamped<const TIMED: bool>(&mut self, frame: &mut CanFrame) -> Result<Line, LineFault> {
+    fn stamped<const TIMED: bool>(&mut self, known: &Known, frame: &mut CanFrame) -> Result<Line, LineFault> {
         let moment = self.stamp::<TIMED>().ok_or(LineFault::BadLine)?;
         let named = self.run(|it| it == b' ') && self.run(|it| it != b' ' && it != b'\n') && self.run(|it| it == b' ');
         if !named {
             return Err(LineFault::BadLine);
         }
-        Ok(Line::Stamped { moment, has_frame: self.frame(frame)? })
+        Ok(Line::Stamped { moment, has_frame: self.frame(known, frame)? })
     }
 
     /// Takes bytes as long as they are such, and returns whether there was one.
@@ -161,35 +207,47 @@ impl<'a> Lines<'a> {
 
     /// Takes a frame and the rest of its line. False says that it is passed over.
     #[inline(always)]
-    fn frame(&mut self, frame: &mut CanFrame) -> Result<bool, LineFault> {
+    fn frame(&mut self, known: &Known, frame: &mut CanFrame) -> Result<bool, LineFault> {
         let Some(&[a, b, c, b'#']) = self.text[self.at..].first_chunk() else {
-            return self.long_identifier();
+            return self.wide_frame(known, frame);
         };
         let [a, b, c] = [a, b, c].map(|it| DIGIT[it as usize]);
         if a > 7 || (b | c) > 15 {
             return Err(LineFault::BadLine);
         }
         self.at += 4;
+        frame.key = (a as u16) << 8 | (b << 4 | c) as u16;
+        self.behind_id(frame)
+    }
+
+    /// The same of one with an identifier of 29 bits.
+    #[inline(never)]
+    fn wide_frame(&mut self, known: &Known, frame: &mut CanFrame) -> Result<bool, LineFault> {
+        let Some(&[a, b, c, d, e, f, g, h, b'#']) = self.text[self.at..].first_chunk() else {
+            return Err(LineFault::BadLine);
+        };
+        let digits = [a, b, c, d, e, f, g, h];
+        if digits.iter().fold(0, |all, &it| all | DIGIT[it as usize]) > 15 {
+            return Err(LineFault::BadLine);
+        }
+        self.at += 9;
+        let Some(key) = known.wide_key(u64::from_le_bytes(digits) | LOWER) else {
+            self.skip();
+            return Ok(false);
+        };
+        frame.key = key;
+        self.behind_id(frame)
+    }
+
+    /// Takes what stands behind an identifier that is read.
+    #[inline(always)]
+    fn behind_id(&mut self, frame: &mut CanFrame) -> Result<bool, LineFault> {
         if matches!(self.peek(), Some(b'#' | b'R')) {
             self.skip();
             return Ok(false);
         }
-        frame.id = (a as u16) << 8 | (b << 4 | c) as u16;
         self.data(frame)?;
         Ok(true)
-    }
-
-    #[cold]
-    fn long_identifier(&mut self) -> Result<bool, LineFault> {
-        let is_long = match self.text[self.at..].first_chunk::<9>() {
-            Some([digits @ .., b'#']) => digits.iter().all(u8::is_ascii_hexdigit),
-            _ => false,
-        };
-        if !is_long {
-            return Err(LineFault::BadLine);
-        }
-        self.skip();
-        Ok(false)
     }
 
     /// Takes the bytes of a data frame and the rest of its line.
@@ -227,6 +285,15 @@ impl<'a> Lines<'a> {
             _ => Ok(()),
         }
     }
+}
+
+/// The bit by which the lower-case digits differ from the upper-case ones, and that all decimal ones have, in eight bytes.
+const LOWER: u64 = u64::from_le_bytes([b' '; 8]);
+
+/// Returns the eight digits of an identifier of 29 bits in lower case, the first one lowest.
+fn folded(id: Id) -> u64 {
+    let text = id.to_string();
+    text.bytes().rev().fold(0, |all, it| all << 8 | it as u64) | LOWER
 }
 
 /// Returns the moment of a stamp as candump writes it, with ten digits before its point and six behind it.

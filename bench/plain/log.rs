@@ -2,19 +2,13 @@
 
 use crate::fault::Fault;
 use crate::feed::{Feed, FeedFault, Limits};
-use crate::lines::{CanFrame, Line, Lines, MOST_TICKS};
+use crate::lines::{CanFrame, Known, Line, Lines, MOST_TICKS};
+use crate::setup::Tester;
 use std::fs::File;
 
 /// The most lines and events of a log, and the most bytes of its file.
 const MOST: u64 = 1_000_000;
 const BYTES: u64 = 67_108_864;
-
-/// The identifiers by which a tester asks.
-#[derive(Clone, Copy)]
-pub struct Ids {
-    pub request: u16,
-    pub functional: u16,
-}
 
 /// An event; the bytes of a frame stand in the log.
 pub enum Event {
@@ -23,10 +17,12 @@ pub enum Event {
 }
 
 /// A log, of which the events before a place were given. Where a stamp lets time pass, ticks and the frame behind them
-/// are kept until they are given.
+/// are kept until they are given. The tester asks by the identifiers with the keys `request` and `functional`.
 pub struct Log {
     number: usize,
-    ids: Ids,
+    known: Known,
+    request: u16,
+    functional: u16,
     feed: Feed,
     at: usize,
     lines: u64,
@@ -47,13 +43,16 @@ enum End {
 }
 
 impl Log {
-    /// Opens a log by its number from 1.
-    pub fn open(number: usize, path: &str, ids: Ids) -> Result<Log, Fault> {
+    /// Opens a tester's log by its number from 1.
+    pub fn open(number: usize, path: &str, tester: &Tester) -> Result<Log, Fault> {
         let file = File::open(path).map_err(|_| Fault::Read(number))?;
         let feed = Feed::new(Box::new(file), Limits { bytes: BYTES, line: usize::MAX });
+        let known = Known::of([tester]);
         Ok(Log {
             number,
-            ids,
+            request: known.key(tester.request),
+            functional: known.key(tester.functional),
+            known,
             feed,
             at: 0,
             lines: 0,
@@ -126,7 +125,7 @@ impl Log {
     fn read<const TIMED: bool>(&mut self) -> Option<Event> {
         loop {
             let mut lines = Lines::new(self.feed.piece(), self.at);
-            while let Some(line) = lines.next::<TIMED>(&mut self.frame) {
+            while let Some(line) = lines.next::<TIMED>(&self.known, &mut self.frame) {
                 self.lines += 1;
                 if self.lines > MOST {
                     return self.ends(End::InLine(Fault::LogLines(self.number)));
@@ -137,8 +136,8 @@ impl Log {
                         return self.give::<TIMED>(0, Event::Ticks(ticks));
                     }
                     Ok(Line::Stamped { moment, has_frame: true }) => {
-                        let functional = self.frame.id == self.ids.functional;
-                        if functional || self.frame.id == self.ids.request {
+                        let functional = self.frame.key == self.functional;
+                        if functional || self.frame.key == self.request {
                             self.at = lines.at();
                             return self.give::<TIMED>(moment, Event::Frame { functional });
                         }

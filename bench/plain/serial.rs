@@ -3,7 +3,7 @@
 use crate::fault::Fault;
 use crate::frames::{Frames, NoFrames, OwnTexts};
 use crate::journal::JournalText;
-use crate::log::{Event, Ids, Log};
+use crate::log::{Event, Log};
 use crate::server::Server;
 use crate::setup::Setup;
 use crate::text::{self, Pages};
@@ -41,8 +41,7 @@ fn run_timed<const TIMED: bool>(setup: &Setup, paths: &[String], only_journal: b
 fn open<const TIMED: bool>(setup: &Setup, paths: &[String]) -> Result<Vec<Log>, Fault> {
     let mut logs = Vec::new();
     for (at, (tester, path)) in setup.testers.iter().zip(paths).enumerate() {
-        let ids = Ids { request: tester.request, functional: setup.functional };
-        match Log::open(at + 1, path, ids) {
+        match Log::open(at + 1, path, tester) {
             Ok(log) => logs.push(log),
             Err(fault) => return Err(file_fault::<TIMED>(&mut logs).unwrap_or(fault)),
         }

@@ -4,6 +4,25 @@
 use crate::hex;
 use std::fmt::{self, Display, Formatter};
 
+/// The functional identifier of a tester of 29 bits that has none of its own.
+const WIDE_FUNCTIONAL: u32 = 0x18DB_33F1;
+
+/// An identifier of 11 bits, or of 29.
+#[derive(Clone, Copy, PartialEq, Eq, PartialOrd, Ord)]
+pub enum Id {
+    Short(u16),
+    Wide(u32),
+}
+
+impl Display for Id {
+    fn fmt(&self, out: &mut Formatter) -> fmt::Result {
+        match self {
+            Id::Short(it) => write!(out, "{it:03X}"),
+            Id::Wide(it) => write!(out, "{it:08X}"),
+        }
+    }
+}
+
 /// The settings of a tester's link. Without a byte to fill frames with they aren't filled.
 pub struct Transport {
     pub block_size: u8,
@@ -16,8 +35,9 @@ pub struct Transport {
 
 pub struct Tester {
     pub name: String,
-    pub request: u16,
-    pub response: u16,
+    pub request: Id,
+    pub response: Id,
+    pub functional: Id,
 }
 
 #[derive(Clone)]
@@ -64,7 +84,6 @@ pub struct Setup {
     pub s3_ms: u64,
     pub transport: Transport,
     pub availability: u8,
-    pub functional: u16,
     pub attempts: u8,
     pub delay_ms: u64,
     pub testers: Vec<Tester>,
@@ -291,14 +310,19 @@ impl<'a> Keys<'a> {
     }
 }
 
-fn tester(keys: &mut Keys) -> Result<Tester, SetupFault> {
+/// Reads a tester; `functional` is the setup's identifier for those of 11 bits.
+fn tester(keys: &mut Keys, functional: u32) -> Result<Tester, SetupFault> {
     let name = keys.text("tester.name")?.ok_or(SetupFault::Missing("tester.name"))?;
     keys.range((1..=16).contains(&name.len()) && name.bytes().all(|it| it.is_ascii_alphanumeric() || it == b'_'));
-    Ok(Tester {
-        name: name.to_string(),
-        request: keys.number("tester.request", 0, 0x7FF, None)? as u16,
-        response: keys.number("tester.response", 0, 0x7FF, None)? as u16,
-    })
+    let request = keys.any_number("tester.request")?.ok_or(SetupFault::Missing("tester.request"))?;
+    let response = keys.any_number("tester.response")?.ok_or(SetupFault::Missing("tester.response"))?;
+    let wide = keys.truth("tester.extended", false)?;
+    let own = keys.any_number("tester.functional")?;
+    let functional = own.unwrap_or(if wide { WIDE_FUNCTIONAL } else { functional });
+    let most = if wide { 0x1FFF_FFFF } else { 0x7FF };
+    keys.range([request, response].into_iter().chain(own).all(|it| it <= most));
+    let id = |number| if wide { Id::Wide(number) } else { Id::Short(number as u16) };
+    Ok(Tester { name: name.to_string(), request: id(request), response: id(response), functional: id(functional) })
 }
 
 fn did(keys: &mut Keys) -> Result<Did, SetupFault> {
@@ -366,16 +390,17 @@ impl Setup {
         let p2_star_10ms = keys.number("p2_star_10ms", 0, 0xFFFF, Some(500))? as u16;
         let s3_ms = keys.number("s3_ms", 1, 600_000, Some(5000))? as u64;
         let transport = Setup::transport(keys)?;
+        let availability = keys.number("availability", 0, 255, Some(255))? as u8;
+        let functional = keys.number("functional", 0, 0x7FF, Some(0x7DF))?;
         Ok(Setup {
             p2_ms,
             p2_star_10ms,
             s3_ms,
             transport,
-            availability: keys.number("availability", 0, 255, Some(255))? as u8,
-            functional: keys.number("functional", 0, 0x7FF, Some(0x7DF))? as u16,
+            availability,
             attempts: keys.number("attempts", 1, 255, Some(3))? as u8,
             delay_ms: keys.number("delay_ms", 1, 600_000, Some(10_000))? as u64,
-            testers: keys.list("tester", 8, tester)?,
+            testers: keys.list("tester", 8, |keys| tester(keys, functional))?,
             dids: keys.list("did", 64, did)?,
             codes: keys.list("code", 256, code)?,
             routines: keys.list("routine", 16, routine)?,
@@ -406,8 +431,9 @@ impl Setup {
         if self.testers.is_empty() || self.levels.iter().any(|it| it.rows.is_empty()) {
             return Err(SetupFault::Empty);
         }
-        let ids = self.testers.iter().flat_map(|it| [it.request, it.response]).chain([self.functional]);
-        let repeats = has_two(ids)
+        let ids = || self.testers.iter().flat_map(|it| [it.request, it.response]);
+        let repeats = has_two(ids())
+            || ids().any(|id| self.testers.iter().any(|it| it.functional == id))
             || has_two(self.testers.iter().map(|it| &it.name))
             || has_two(self.dids.iter().map(|it| it.id))
             || has_two(self.codes.iter().map(|it| it.code))
