@@ -73,6 +73,20 @@ def long_replies():
     return [*frames, "7E0#300000"]
 
 
+def fd_reads():
+    """As `reads`, by CAN FD, and a read whose answer is a SingleFrame of 24 bytes."""
+    return ["7E0##1023E00", "7E0##103220100", "7E0##103220100CCCCCCCC", "7E0##10322F190"]
+
+
+def fd_message(length):
+    """As `message`, by CAN FD in frames of 64 bytes; the last is filled up."""
+    data = f"1{length:03X}{(bytes([0x2E, 0xF1, 0x90]) + bytes(it % 251 for it in range(length - 3))).hex()}"
+    frames = [f"7E0##1{data[:128]}"]
+    for number, at in enumerate(range(128, len(data), 126), 1):
+        frames.append(f"7E0##1{0x20 + number % 16:02X}{data[at : at + 126].ljust(126, 'C')}")
+    return [it.upper() for it in frames]
+
+
 def ticks():
     return ["tick", "7E0#023E00", "tick 10", "tick", "7E0#03220100", "tick 3"]
 
@@ -108,10 +122,12 @@ def written(path, lines):
 
 
 def config_of(room, testers, texts):
-    """The setup of so many testers; of one with 29 bits where that asks."""
+    """The setup of so many testers; of one with 29 bits, or by CAN FD, where that asks."""
     if WIDE in texts:
         text = setup(1).replace("request = 2016\nresponse = 2024", "extended = true\nrequest = 0x18DA10F1\nresponse = 0x18DAF110")
         return written(f"{room}/wide.toml", [text])
+    if any("##" in it for it in texts):
+        return written(f"{room}/fd.toml", [setup(1).replace("response = 2024", "response = 2024\nfd = true")])
     return written(f"{room}/{testers}.toml", [setup(testers)])
 
 
@@ -142,6 +158,8 @@ def workloads(seed):
         "compare, eight testers": (["compare"], 8, [asked(eight())], 500),
         "replay of reads": (["replay"], 1, [reads()], 500),
         "replay of eight testers": (["replay"], 8, [turn(it) for it in range(8)], 500),
+        "bus, CAN FD, reads": (["bus"], 1, [fd_reads()], 500),
+        "bus, CAN FD, long requests": (["bus"], 1, [fd_message(4000)], 500),
     }
 
 

@@ -36,12 +36,16 @@ pub fn run(setup: &Setup, feed: Feed, wanted: Wanted) -> Result<(), Fault> {
             bus.follow(feed)?;
             text::print([bus.server.end_text(setup).as_bytes()])
         }
-        Wanted::Verdict => {
-            let mut bus = Bus::new(setup, Verdict::new(setup), NoJournal);
-            bus.follow(feed)?;
-            text::print([bus.server.frames.text(setup)?.as_bytes()])
-        }
+        Wanted::Verdict if setup.testers.iter().any(|it| it.fd) => run_verdict::<64>(setup, feed),
+        Wanted::Verdict => run_verdict::<8>(setup, feed),
     }
+}
+
+/// Compares frames of so many bytes at most.
+fn run_verdict<const MOST: usize>(setup: &Setup, feed: Feed) -> Result<(), Fault> {
+    let mut bus = Bus::new(setup, Verdict::<MOST>::new(setup), NoJournal);
+    bus.follow(feed)?;
+    text::print([bus.server.frames.text(setup)?.as_bytes()])
 }
 
 /// What is written of a bus as it goes.
@@ -62,10 +66,10 @@ impl Written for NoFrames {}
 
 impl Written for NoJournal {}
 
-impl Written for Verdict {
+impl<const MOST: usize> Written for Verdict<MOST> {
     #[inline]
     fn record(&mut self, who: usize, line: u64, bytes: &[u8]) {
-        Verdict::record(self, who, line, bytes);
+        Verdict::<MOST>::record(self, who, line, bytes);
     }
 }
 
@@ -149,7 +153,7 @@ impl<F: Frames + Written, J: Journal + Written> Bus<F, J> {
 
     fn take(&mut self, piece: &[u8]) -> Result<(), Fault> {
         let mut lines = Lines::new(piece, 0);
-        let mut frame = CanFrame::default();
+        let mut frame = CanFrame::new();
         loop {
             let from = lines.at();
             let Some(line) = lines.next::<true>(&self.known, &mut frame) else { return Ok(()) };

@@ -1,7 +1,7 @@
 //! The frames that the server sends, as the lines that `candump -L` would write of them.
 
 use crate::hex;
-use crate::setup::{Id, Setup};
+use crate::setup::{Setup, Tester};
 use crate::text::{Decimal, Outlet, Pages, Paper};
 
 /// What becomes of the frames that are sent.
@@ -9,7 +9,8 @@ pub trait Frames {
     fn frame(&mut self, who: usize, time: u64, bytes: &[u8]);
 }
 
-/// The bytes of the longest line, and some: a stamp has 17 digits before its point at most, a name 16 letters.
+/// The bytes of the longest line of a frame of up to 8 bytes, and some: a stamp has 17 digits before its point at most, a
+/// name 16 letters, an identifier 8 digits.
 const LONGEST: usize = 80;
 
 /// A line of a tester, ready but for the bytes and the stamp's last digits.
@@ -22,8 +23,10 @@ struct ReplyLine {
 }
 
 impl ReplyLine {
-    fn new(name: &str, response: Id) -> ReplyLine {
-        let behind_stamp = format!("000) {name} {response}#").into_bytes();
+    fn new(tester: &Tester, fd_flags: u8) -> ReplyLine {
+        let Tester { name, response, .. } = tester;
+        let flags = if tester.fd { format!("#{fd_flags:X}") } else { String::new() };
+        let behind_stamp = format!("000) {name} {response}#{flags}").into_bytes();
         let mut line = ReplyLine { bytes: [0; LONGEST], point: 0, head: 0, time: 0, behind_stamp };
         line.set_second(0);
         line
@@ -39,6 +42,7 @@ impl ReplyLine {
         let behind = &mut self.bytes[self.head..self.head + 17];
         match <&[u8; 8]>::try_from(frame) {
             Ok(full) => hex::write(full, behind),
+            Err(_) if frame.len() > 8 => return self.write_long(frame, on),
             Err(_) => hex::write(frame, behind),
         }
         behind[len] = b'\n';
@@ -46,6 +50,17 @@ impl ReplyLine {
             *room = self.bytes;
         }
         on.take(self.head + len + 1);
+    }
+
+    /// Writes the line of a frame of more than 8 bytes, whose time is set.
+    #[inline(never)]
+    fn write_long(&self, frame: &[u8], on: &mut impl Paper) {
+        let end = self.head + 2 * frame.len();
+        let room = &mut on.room(end + 1)[..end + 1];
+        room[..self.head].copy_from_slice(&self.bytes[..self.head]);
+        hex::write(frame, &mut room[self.head..end]);
+        room[end] = b'\n';
+        on.take(end + 1);
     }
 
     fn set_time(&mut self, time: u64) {
@@ -72,7 +87,7 @@ impl ReplyLine {
 }
 
 fn reply_lines(setup: &Setup) -> Vec<ReplyLine> {
-    setup.testers.iter().map(|it| ReplyLine::new(&it.name, it.response)).collect()
+    setup.testers.iter().map(|it| ReplyLine::new(it, setup.transport.fd_flags)).collect()
 }
 
 /// Frames that nobody wants.

@@ -12,16 +12,21 @@ import sys
 import tempfile
 
 NAMES = "ABCDEFGH"
+# how many bytes a frame of CAN FD can have
+LENGTHS = [*range(9), 12, 16, 20, 24, 32, 48, 64]
 
 
 class Tester:
     """A tester's identifiers, as lines have them, and its table in the setup."""
 
-    def __init__(self, dice, at):
+    def __init__(self, dice, at, fd, mixed):
         wide = dice.random() < 0.35
         request = dice.choice([0x18DA10F1 + 0x100 * at, 0x1FFFFFFF - 2 * at, 0x7E0 + at]) if wide else 0x7E0 + at
         response = dice.choice([0x18DAF110 + at, 0x1FFFFFFE - 2 * at, 0x7E8 + at]) if wide else 0x7E8 + at
         functional = dice.choice([None, None, None, *([0x18DB33F1, 0x18DB3301, 0x7DF, 0] if wide else [0x7DF, 0x700, 1])])
+        # testers with CAN FD and without share none
+        if fd and mixed and dice.random() < 0.98:
+            functional = dice.choice([0x18DB33F2, 0x7DE, 2] if wide else [0x7DE, 0x701])
         # now and then one that isn't allowed
         if dice.random() < 0.01:
             request, response, functional = (dice.choice([it, 0x7E1, 0x800, 0x18DB33F1, 0x20000000]) for it in (request, response, functional))
@@ -31,6 +36,8 @@ class Tester:
         keys = [f'name = "{NAMES[at]}{"x" * dice.choice([0, 3, 15])}"', f"request = {request}", f"response = {response:#x}"]
         keys += ["extended = true"] if wide else dice.choice([[], [], ["extended = false"]])
         keys += [f"functional = {functional}"] if functional is not None else []
+        self.fd = fd
+        keys += ["fd = true"] if fd else dice.choice([[], [], ["fd = false"]])
         dice.shuffle(keys)
         self.table = "\n".join(["[[tester]]", *keys])
 
@@ -42,6 +49,10 @@ def setup(dice, testers):
     keys += [f"block_size = {dice.choice([0, 0, 1, 2, 8])}", f"st_min = {dice.choice([0, 5, 127, 241, 249])}"]
     keys += [f"max_request = {dice.choice([8, 100, 4095, 65535])}", f"pad = {dice.choice(['true', 'false'])}"]
     keys += [f"pad_byte = {dice.choice([0xCC, 0, 0x55])}", f"p2_ms = {dice.randrange(65536)}"]
+    if dice.random() < 0.8:
+        keys += [f"tx_dl = {dice.choice(LENGTHS[8:]) if dice.random() < 0.98 else dice.choice([0, 7, 9, 13, 63, 65, 128])}"]
+    if dice.random() < 0.5:
+        keys += [f"fd_flags = {dice.randrange(16 if dice.random() < 0.98 else 18)}"]
     rows = [it.table for it in testers]
     level = lambda: dice.choice([0, 0, 1, 3])
     for did, size in ((0xF190, 17), (0x0100, 1), (0x0101, 255), (0x0102, 4)):
@@ -57,6 +68,12 @@ def setup(dice, testers):
 
 
 def request(dice):
+    if dice.random() < 0.15:
+        return "22" + "".join(dice.choice(["F190", "0100", "0102", "FFFF"]) for _ in range(dice.randrange(4, 60)))
+    if dice.random() < 0.03:
+        # replies and requests of some 4095 bytes, behind which a FirstFrame has the other form
+        reads = ["0101" * 15 + "0102" * 40, "0101" * 15 + "F190" * 2 + "0100" * 67, "0101" * 20]
+        return "22" + dice.choice(reads) if dice.random() < 0.6 else f"2E0101{dice.randbytes(dice.choice([4092, 4093, 5000])).hex().upper()}"
     did = dice.choice(["F190", "0100", "0101", "0102", "FFFF"])
     suppress = dice.choice([0, 0, 0, 0x80])
     sub = lambda *of: f"{dice.choice(of) | suppress:02X}"
@@ -77,7 +94,7 @@ def frames(dice, own, data):
     size = len(data) // 2
     if size < 8:
         return [f"{own}#{size:02X}{data}{dice.choice(['', 'AA' * (7 - size)])}"]
-    if dice.random() < 0.2:
+    if size > 4095 or dice.random() < 0.2:
         head, rest = f"1000{size:08X}{data[:4]}", data[4:]
     else:
         head, rest = f"1{size:03X}{data[:12]}", data[12:]
@@ -88,12 +105,64 @@ def frames(dice, own, data):
     return made
 
 
-def flow(dice, own):
-    return f"{own}#3{dice.choice('0000012345')}{dice.choice([0, 0, 1, 2, 5]):02X}{dice.choice([0, 0, 1, 5, 0x7F, 0xF1, 0xFA]):02X}"
+def fd_frame(dice, own, data):
+    """A frame of CAN FD with these hex digits, filled up to a length that there is."""
+    lengths = [it for it in LENGTHS if it >= len(data) // 2]
+    length = lengths[0] if dice.random() < 0.9 else dice.choice(lengths)
+    return f"{own}##{dice.choice('0123456789ABCDEFabcdef')}{data}{'CC' * (length - len(data) // 2)}"
+
+
+def fd_frames(dice, own, data):
+    """The frames of a request by CAN FD, now and then with one that is wrong."""
+    size = len(data) // 2
+    rx_dl = dice.choice(LENGTHS[8:])
+    if size < 8:
+        return [fd_frame(dice, own, f"{size:02X}{data}")]
+    if dice.random() < 0.1:
+        told = dice.choice([rx_dl - 3, rx_dl - 2, rx_dl - 1, 0, 7, 8])
+        return [f"{own}##1{f'1{told:03X}{data}'.ljust(2 * rx_dl, '5')[: 2 * rx_dl]}", fd_frame(dice, own, "2155")]
+    if size <= rx_dl - 2 or size <= 62 and dice.random() < 0.05:
+        return [fd_frame(dice, own, f"00{max(size + dice.choice([0] * 20 + [-1, 1, 9]), 0):02X}{data}")]
+    head = f"1000{size:08X}" if size > 4095 or dice.random() < 0.1 else f"1{size:03X}"
+    first = 2 * rx_dl - len(head)
+    made = [f"{own}##1{head}{data[:first]}"]
+    part = 2 * rx_dl - 2
+    for number, at in enumerate(range(first, len(data), part), 1):
+        number += dice.random() < 0.01
+        rest = data[at : at + part]
+        if dice.random() < 0.02:
+            rest = dice.choice([rest[:-2], rest[: 2 * dice.choice(LENGTHS[1:]) - 2], (rest + "AA" * 63)[:126]])
+        made.append(fd_frame(dice, own, f"{0x20 + number % 16:02X}{rest}"))
+    return made
+
+
+def any_frames(dice, tester, own, data):
+    """The frames of a request in one of the ways in which the tester talks."""
+    return (fd_frames if tester.fd and dice.random() < 0.8 else frames)(dice, own, data)
+
+
+def any_frame(dice, tester, own):
+    """A frame of any bytes."""
+    if dice.random() < (0.6 if tester.fd else 0.1):
+        first = dice.choice(["", "", "00", "1", "2", "30", "037F2E78"])
+        data = dice.randbytes(dice.choice(LENGTHS)).hex()
+        return f"{own}##{dice.randrange(16):x}{(first + data)[: len(data)]}"
+    return f"{own}#{dice.randbytes(dice.randrange(9)).hex()}"
+
+
+def flow(dice, tester):
+    data = f"3{dice.choice('0000012345')}{dice.choice([0, 0, 1, 2, 5]):02X}{dice.choice([0, 0, 1, 5, 0x7F, 0xF1, 0xFA]):02X}"
+    return fd_frame(dice, tester.own, data) if tester.fd and dice.random() < 0.8 else f"{tester.own}#{data}"
+
+
+def fd_wrong(dice, own):
+    """A line of CAN FD that isn't one."""
+    data = dice.randbytes(dice.choice([9, 10, 13, 31, 63, 65, 66, 100])).hex()
+    return f"{own}##" + dice.choice([f"1{data}", "", "G00", "_", "1" + "00" * 64 + "0", "1" + "00" * 63 + "0", "10", "1" + "00" * 8 + "_9", "100G", "1" + "00" * 65, "1 ", "1#"])
 
 
 FOREIGN = ["123#DEADBEEF", "18DB33F1#0210030000000000", "7E0#R8", "7E0##1021001", "7E8#065003003201F4", "7FF#", "00000000#zz"]
-FOREIGN += ["18FEF100#0102030405060708", "000007E0#023E00", "18da10f1#03220100", "18DAF110#065003003201F4", "20000004#00#", "FFFFFFFF#R", "18DB33F1##1"]
+FOREIGN += ["18FEF100#0102030405060708", "000007E0#023E00", "18da10f1#03220100", "18DAF110#065003003201F4", "20000004#00#", "FFFFFFFF#R", "18DB33F1##1", "123##1" + "AB" * 64]
 WRONG = ["7E0#023", "7E0#021003000000000000", "800#00", "FFF#R", "7E0#02G", "07E0#00", "7E0#021003_9", "7E0#023E00AAAAAAAAAA_", "7E0", ""]
 WRONG += ["018DA10F1#00", "8DA10F1#00", "18DA10F1", "18FEF1`0#00", "18FEF1@0#00", "\x118FEF100#00", "18FEF10G#00", "18FEF100R8", "é8FEF10#00"]
 BAD = ["tick 0", "tick 60001", "tick 01", "tick  5", "tickle", "tick 5 ", "can0 7E0#00", "(0.00000) can0 7E0#00", "(1.000000)can0 7E0#00", "(0.000000) 7E0#00", "\r", "x" * 5000, "(1.0000000000) can0 7E0#00"]
@@ -114,21 +183,21 @@ def lines(dice, testers, count, faults):
         own = tester.own
         kind = dice.random()
         if kind < 0.35:
-            texts = frames(dice, own, request(dice))
+            texts = any_frames(dice, tester, own, request(dice))
         elif kind < 0.5:
-            texts = [flow(dice, own)]
+            texts = [flow(dice, tester)]
         elif kind < 0.6:
-            texts = frames(dice, tester.functional, request(dice)[:14])
+            texts = any_frames(dice, tester, tester.functional, request(dice)[: dice.choice([14, 14, 40])])
         elif kind < 0.7:
             texts = [f"tick {dice.choice([1, 2, 5, 10, 30, 999, 1000, 60000])}", "tick"][: dice.randrange(1, 3)]
         elif kind < 0.8:
-            texts = [f"{dice.choice([own, own.lower(), tester.functional, tester.response])}#{dice.randbytes(dice.randrange(9)).hex()}"]
+            texts = [any_frame(dice, tester, dice.choice([own, own.lower(), tester.functional, tester.response]))]
         elif kind < 0.82:
             texts = [""]
         else:
             texts = [dice.choice(FOREIGN)]
         if faults and dice.random() < 0.01:
-            texts.append(dice.choice([dice.choice(WRONG), changed(dice, texts[-1]), tester.own + "#023"]))
+            texts.append(dice.choice([dice.choice(WRONG), changed(dice, texts[-1]), tester.own + "#023", fd_wrong(dice, tester.own)]))
         for text in texts:
             end = dice.choice(["\n"] * 9 + ["\r\n"])
             if faults and dice.random() < 0.003:
@@ -162,11 +231,18 @@ def without_replies(capture, testers):
     return "".join(line for line in capture.splitlines(keepends=True) if not any(it in line.upper() for it in own))
 
 
+def pending(dice, reply):
+    """A line with the identifier of a reply that says response pending, or seems to."""
+    head, mark, rest = reply.partition("#")
+    by_fd = rest.startswith("#")
+    return f"{head}{mark}{rest[: 2 * by_fd]}037F2278{'CC' * dice.choice([0, 4, 4, 8] if by_fd else [0, 4])}\n"
+
+
 def with_replies(dice, capture, replies):
     """A capture with the server's replies among its lines or behind them, in order, now and then with one that is wrong or
     missing."""
     wrong = dice.choice([0, 0, 0.01])
-    kept = lambda it: it if dice.random() >= wrong else dice.choice(["", it.strip()[:-2] + "\n", it.strip()[:-2] + "5A\n"])
+    kept = lambda it: it if dice.random() >= wrong else dice.choice(["", it.strip()[:-2] + "\n", it.strip()[:-2] + "5A\n", pending(dice, it) + it])
     mixed, replies = [], replies.splitlines(keepends=True)
     lines = capture.splitlines(keepends=True)
     behind = dice.random() < 0.5
@@ -193,7 +269,8 @@ def case(dice, room, programs, counts):
             it.write(text if isinstance(text, bytes) else text.encode())
         return f"{room.name}/{name}"
 
-    testers = [Tester(dice, it) for it in range(dice.choice([1, 1, 2, 3, 8]))]
+    kinds = dice.choice([[False], [True], [True, False]])
+    testers = [Tester(dice, it, dice.choice(kinds), len(kinds) > 1) for it in range(dice.choice([1, 1, 2, 3, 8]))]
     config = put("setup", setup(dice, testers))
     faults = dice.random() < 0.3
     logs = [put(f"{at}.log", lines(dice, [it], dice.randrange(1, 200), faults)) for at, it in enumerate(testers)]

@@ -1,6 +1,7 @@
 //! The lines of a log and of a capture, in the notation of `candump -L`.
 
 use crate::hex::{self, DIGIT};
+use crate::link;
 use crate::setup::{Id, Tester};
 
 /// The most ticks of one event.
@@ -10,16 +11,24 @@ pub const MOST_TICKS: u16 = 60_000;
 const SHORT_IDS: usize = 0x800;
 
 /// The identifiers that are read: all of 11 bits, and those of 29 that testers have. Each has a key: one of 11 bits its
-/// number, one of 29 its place behind these.
+/// number, one of 29 its place behind these. Frames of CAN FD are read where the key's identifier is that of a tester who
+/// talks so.
 pub struct Known {
     wide: Vec<u64>,
+    fd: Vec<bool>,
 }
 
 impl Known {
-    pub fn of<'a>(testers: impl IntoIterator<Item = &'a Tester>) -> Known {
-        let ids = testers.into_iter().flat_map(|it| [it.request, it.response, it.functional]);
-        let wide = ids.filter(|it| matches!(it, Id::Wide(_))).map(folded);
-        Known { wide: wide.collect() }
+    pub fn of(testers: &[Tester]) -> Known {
+        let ids = || testers.iter().flat_map(|it| [it.request, it.response, it.functional].map(|id| (id, it.fd)));
+        let wide = ids().filter(|(id, _)| matches!(id, Id::Wide(_))).map(|(id, _)| folded(id));
+        let mut known = Known { wide: wide.collect(), fd: Vec::new() };
+        known.fd = vec![false; known.keys()];
+        for (id, fd) in ids() {
+            let key = known.key(id) as usize;
+            known.fd[key] = fd;
+        }
+        known
     }
 
     /// Returns how many keys there are.
@@ -42,14 +51,17 @@ impl Known {
 }
 
 /// A data frame, with its identifier's key.
-#[derive(Clone, Copy, Default)]
 pub struct CanFrame {
     pub key: u16,
     len: u8,
-    bytes: [u8; 8],
+    bytes: [u8; 64],
 }
 
 impl CanFrame {
+    pub fn new() -> CanFrame {
+        CanFrame { key: 0, len: 0, bytes: [0; 64] }
+    }
+
     pub fn bytes(&self) -> &[u8] {
         &self.bytes[..self.len as usize]
     }
@@ -217,7 +229,7 @@ impl<'a> Lines<'a> {
         }
         self.at += 4;
         frame.key = (a as u16) << 8 | (b << 4 | c) as u16;
-        self.behind_id(frame)
+        self.behind_id(known, frame)
     }
 
     /// The same of one with an identifier of 29 bits.
@@ -236,29 +248,58 @@ impl<'a> Lines<'a> {
             return Ok(false);
         };
         frame.key = key;
-        self.behind_id(frame)
+        self.behind_id(known, frame)
     }
 
     /// Takes what stands behind an identifier that is read.
     #[inline(always)]
-    fn behind_id(&mut self, frame: &mut CanFrame) -> Result<bool, LineFault> {
+    fn behind_id(&mut self, known: &Known, frame: &mut CanFrame) -> Result<bool, LineFault> {
         if matches!(self.peek(), Some(b'#' | b'R')) {
+            return self.other_frame(known, frame);
+        }
+        self.data(frame)?;
+        Ok(true)
+    }
+
+    /// Takes what stands behind an identifier of another frame than a classic data frame.
+    #[inline(never)]
+    fn other_frame(&mut self, known: &Known, frame: &mut CanFrame) -> Result<bool, LineFault> {
+        if self.peek() == Some(b'R') || !known.fd[frame.key as usize] {
             self.skip();
             return Ok(false);
         }
-        self.data(frame)?;
+        let Some(&[_, flags, ref data @ ..]) = self.text.get(self.at..) else { return Err(LineFault::BadLine) };
+        if !flags.is_ascii_hexdigit() {
+            return Err(LineFault::BadLine);
+        }
+        let len = hex::read_front(data, &mut frame.bytes);
+        if data.get(2 * len).is_some_and(u8::is_ascii_hexdigit) {
+            return Err(if len == 64 { LineFault::TooManyBytes } else { LineFault::BadLine });
+        }
+        if len > 8 && !link::is_long(len) {
+            return Err(LineFault::BadLine);
+        }
+        frame.len = len as u8;
+        self.at += 2 + 2 * len;
+        self.behind_data()?;
         Ok(true)
     }
 
     /// Takes the bytes of a data frame and the rest of its line.
     #[inline(always)]
     fn data(&mut self, frame: &mut CanFrame) -> Result<(), LineFault> {
-        let len = hex::read_front(&self.text[self.at..], &mut frame.bytes);
+        let len = hex::read_front(&self.text[self.at..], &mut frame.bytes[..8]);
         frame.len = len as u8;
         self.at += 2 * len;
         if len == 8 {
             self.behind_eight()?;
         }
+        self.behind_data()
+    }
+
+    /// Takes what stands behind the bytes of a data frame.
+    #[inline(always)]
+    fn behind_data(&mut self) -> Result<(), LineFault> {
         if !self.ends() {
             if self.peek() != Some(b' ') {
                 return Err(LineFault::BadLine);

@@ -8,26 +8,63 @@ use std::mem;
 /// The moment at which nothing falls due.
 pub const NEVER: u64 = u64::MAX;
 
-/// The most bytes of a Single frame's message, and of a First frame's without the escape.
+/// The most bytes of a Single frame's message by the short form, and of a First frame's without the escape.
 const SINGLE: usize = 7;
 const SHORT_LENGTH: usize = 4095;
 
-/// What received bytes are.
+/// How many bytes a frame of CAN FD has where it has more than 8.
+const LONG: [usize; 7] = [12, 16, 20, 24, 32, 48, 64];
+const LONGEST: usize = 64;
+
+/// The number of such a frame's bytes from any, rounded up.
+const ROUNDED: [u8; LONGEST + 1] = rounded();
+
+const fn rounded() -> [u8; LONGEST + 1] {
+    let mut table = [0; LONGEST + 1];
+    let mut len = 0;
+    let mut at = 0;
+    while len <= LONGEST {
+        if len > LONG[at] {
+            at += 1;
+        }
+        table[len] = LONG[at] as u8;
+        len += 1;
+    }
+    table
+}
+
+/// Returns whether a frame of CAN FD can have so many bytes, which are more than 8.
+pub fn is_long(len: usize) -> bool {
+    LONG.contains(&len)
+}
+
+/// What received bytes are. The Consecutive frames behind a First frame bring `part` bytes each, but for the last.
 pub enum Kind<'a> {
     Single(&'a [u8]),
-    First { length: usize, head: &'a [u8] },
+    First { length: usize, head: &'a [u8], part: usize },
     Overflow,
     Consecutive { number: u8, part: &'a [u8] },
     FlowControl { status: u8, block: u8, gap: u8 },
     Ignored,
 }
 
-/// Reads the protocol control information of a frame, with the length of the longest request.
-#[inline]
+/// Reads the protocol control information of a frame of up to 8 bytes, with the length of the longest request.
+#[inline(always)]
 pub fn kind(bytes: &[u8], max_request: usize) -> Kind<'_> {
     match bytes {
         [first @ 0x01..=0x07, payload @ ..] => payload.get(..*first as usize).map_or(Kind::Ignored, Kind::Single),
         [0x10..=0x1F, ..] if bytes.len() == 8 => first_frame(bytes, max_request),
+        [first @ 0x20..=0x2F, part @ ..] => Kind::Consecutive { number: first & 15, part },
+        [first @ 0x30..=0x3F, block, gap, ..] => Kind::FlowControl { status: first & 15, block: *block, gap: *gap },
+        _ => Kind::Ignored,
+    }
+}
+
+/// The same of a frame of more than 8 bytes.
+pub fn long_kind(bytes: &[u8], max_request: usize) -> Kind<'_> {
+    match bytes {
+        [0x00, len @ 8..=u8::MAX, payload @ ..] => payload.get(..*len as usize).map_or(Kind::Ignored, Kind::Single),
+        [0x10..=0x1F, ..] => first_frame(bytes, max_request),
         [first @ 0x20..=0x2F, part @ ..] => Kind::Consecutive { number: first & 15, part },
         [first @ 0x30..=0x3F, block, gap, ..] => Kind::FlowControl { status: first & 15, block: *block, gap: *gap },
         _ => Kind::Ignored,
@@ -39,13 +76,13 @@ fn first_frame(bytes: &[u8], max_request: usize) -> Kind<'_> {
     let escape = u32::from_be_bytes([bytes[2], bytes[3], bytes[4], bytes[5]]) as usize;
     let (length, head) = match short {
         0 if escape > SHORT_LENGTH => (escape, &bytes[6..]),
-        8.. => (short, &bytes[2..]),
+        8.. if short > bytes.len() - 2 => (short, &bytes[2..]),
         _ => return Kind::Ignored,
     };
     if length > max_request {
         Kind::Overflow
     } else {
-        Kind::First { length, head }
+        Kind::First { length, head, part: bytes.len() - 1 }
     }
 }
 
@@ -57,10 +94,12 @@ pub enum Progress {
     Whole,
 }
 
-/// The reception of a message. It is open before a moment, which is 0 where there is none.
+/// The reception of a message, of which each Consecutive frame but the last brings `part` bytes. It is open before a
+/// moment, which is 0 where there is none.
 pub struct Reception {
     message: Vec<u8>,
     length: usize,
+    part: usize,
     number: u8,
     left_of_block: usize,
     open_until: u64,
@@ -74,6 +113,7 @@ impl Reception {
         Reception {
             message: Vec::new(),
             length: 0,
+            part: 0,
             number: 0,
             left_of_block: 0,
             open_until: 0,
@@ -90,18 +130,20 @@ impl Reception {
         self.open_until = 0;
     }
 
-    pub fn open(&mut self, length: usize, head: &[u8], now: u64) {
+    pub fn open(&mut self, length: usize, head: &[u8], part: usize, now: u64) {
         self.message.clear();
         self.message.extend_from_slice(head);
         self.length = length;
+        self.part = part;
         self.number = 1;
         self.left_of_block = self.block;
         self.open_until = now + self.n_cr;
     }
 
+    #[inline(always)]
     pub fn consecutive(&mut self, number: u8, part: &[u8], now: u64) -> Progress {
-        let wanted = (self.length - self.message.len()).min(7);
-        if now >= self.open_until || number != self.number || part.len() < wanted {
+        let wanted = (self.length - self.message.len()).min(self.part);
+        if now >= self.open_until || number != self.number || part.len() < wanted || part.len() > self.part {
             self.close();
             return Progress::Nothing;
         }
@@ -127,12 +169,15 @@ enum Phase {
     Block { left: usize, gap: u64 },
 }
 
-/// The sending of replies: the one under way, of which the first bytes were sent, and those that wait for it.
+/// The sending of replies: the one under way, of which the first bytes were sent, and those that wait for it. A Single
+/// frame has up to `single` bytes of a message.
 pub struct Sender {
     who: usize,
     n_bs: u64,
     blank: [u8; 8],
     shortest: usize,
+    tx_dl: usize,
+    single: usize,
     message: Vec<u8>,
     sent: usize,
     number: u8,
@@ -142,12 +187,14 @@ pub struct Sender {
 }
 
 impl Sender {
-    fn new(who: usize, of: &Transport) -> Sender {
+    fn new(who: usize, tx_dl: usize, of: &Transport) -> Sender {
         Sender {
             who,
             n_bs: of.n_bs_ms,
-            blank: [of.pad_byte.unwrap_or(0); 8],
-            shortest: if of.pad_byte.is_some() { 8 } else { 0 },
+            blank: [of.pad_byte; 8],
+            shortest: if of.pad { 8 } else { 0 },
+            tx_dl,
+            single: SINGLE.max(tx_dl - 2),
             message: Vec::new(),
             sent: 0,
             number: 0,
@@ -166,7 +213,7 @@ impl Sender {
     pub fn answer(&mut self, reply: &mut Vec<u8>, now: u64, out: &mut impl Frames) {
         if self.due != NEVER {
             self.waiting.push_back(reply.as_slice().into());
-        } else if reply.len() <= SINGLE {
+        } else if reply.len() <= self.single {
             self.single(reply, now, out);
         } else {
             mem::swap(&mut self.message, reply);
@@ -225,7 +272,7 @@ impl Sender {
     fn over(&mut self, now: u64, out: &mut impl Frames) {
         self.due = NEVER;
         while let Some(reply) = self.waiting.pop_front() {
-            if reply.len() > SINGLE {
+            if reply.len() > self.single {
                 self.message = reply.into_vec();
                 return self.first(now, out);
             }
@@ -234,12 +281,19 @@ impl Sender {
     }
 
     fn single(&self, reply: &[u8], now: u64, out: &mut impl Frames) {
-        self.send(&[reply.len() as u8], reply, now, out);
+        let len = reply.len() as u8;
+        if reply.len() <= SINGLE {
+            self.send(&[len], reply, now, out);
+        } else {
+            self.send_long(&[0, len], reply, now, out);
+        }
     }
 
     fn first(&mut self, now: u64, out: &mut impl Frames) {
         let [_, _, high, low] = (self.message.len() as u32).to_be_bytes();
-        if self.message.len() > SHORT_LENGTH {
+        if self.tx_dl > 8 {
+            self.long_first(now, out);
+        } else if self.message.len() > SHORT_LENGTH {
             self.sent = 2;
             self.send(&[0x10, 0, 0, 0, high, low], &self.message[..2], now, out);
         } else {
@@ -251,11 +305,24 @@ impl Sender {
         self.due = now + self.n_bs;
     }
 
+    /// Sends the First frame where it has more than 8 bytes.
+    #[inline(never)]
+    fn long_first(&mut self, now: u64, out: &mut impl Frames) {
+        let [_, _, high, low] = (self.message.len() as u32).to_be_bytes();
+        let head: &[u8] = if self.message.len() > SHORT_LENGTH { &[0x10, 0, 0, 0, high, low] } else { &[0x10 | high, low] };
+        self.sent = self.tx_dl - head.len();
+        self.send_long(head, &self.message[..self.sent], now, out);
+    }
+
     #[inline]
     fn consecutive(&mut self, now: u64, out: &mut impl Frames) {
         let head = 0x20 | self.number;
         let rest = &self.message[self.sent..];
-        if let Some(&[a, b, c, d, e, f, g]) = rest.first_chunk() {
+        if self.tx_dl > 8 && rest.len() > SINGLE {
+            let part = &rest[..rest.len().min(self.tx_dl - 1)];
+            self.send_long(&[head], part, now, out);
+            self.sent += part.len();
+        } else if let Some(&[a, b, c, d, e, f, g]) = rest.first_chunk() {
             out.frame(self.who, now, &[head, a, b, c, d, e, f, g]);
             self.sent += 7;
         } else {
@@ -273,6 +340,16 @@ impl Sender {
         bytes[..head.len()].copy_from_slice(head);
         bytes[head.len()..len].copy_from_slice(rest);
         out.frame(self.who, now, &bytes[..len.max(self.shortest)]);
+    }
+
+    /// Sends a frame of two parts that have more than 8 bytes.
+    #[inline(never)]
+    fn send_long(&self, head: &[u8], rest: &[u8], now: u64, out: &mut impl Frames) {
+        let len = head.len() + rest.len();
+        let mut bytes = [self.blank[0]; LONGEST];
+        bytes[..head.len()].copy_from_slice(head);
+        bytes[head.len()..len].copy_from_slice(rest);
+        out.frame(self.who, now, &bytes[..ROUNDED[len] as usize]);
     }
 }
 
@@ -293,11 +370,12 @@ pub struct Link {
 }
 
 impl Link {
-    pub fn new(who: usize, of: &Transport) -> Link {
+    /// Makes a tester's link, which may be by CAN FD.
+    pub fn new(who: usize, fd: bool, of: &Transport) -> Link {
         Link {
             max_request: of.max_request,
             reception: Reception::new(of),
-            sender: Sender::new(who, of),
+            sender: Sender::new(who, if fd { of.tx_dl } else { 8 }, of),
             granted: [0x30, of.block_size, of.st_min],
         }
     }

@@ -5,6 +5,7 @@ use crate::feed::{Feed, FeedFault, Limits};
 use crate::lines::{CanFrame, Known, Line, Lines, MOST_TICKS};
 use crate::setup::Tester;
 use std::fs::File;
+use std::slice;
 
 /// The most lines and events of a log, and the most bytes of its file.
 const MOST: u64 = 1_000_000;
@@ -47,7 +48,7 @@ impl Log {
     pub fn open(number: usize, path: &str, tester: &Tester) -> Result<Log, Fault> {
         let file = File::open(path).map_err(|_| Fault::Read(number))?;
         let feed = Feed::new(Box::new(file), Limits { bytes: BYTES, line: usize::MAX });
-        let known = Known::of([tester]);
+        let known = Known::of(slice::from_ref(tester));
         Ok(Log {
             number,
             request: known.key(tester.request),
@@ -60,7 +61,7 @@ impl Log {
             reference: None,
             ticks: 0,
             behind: None,
-            frame: CanFrame::default(),
+            frame: CanFrame::new(),
             end: End::NotYet,
         })
     }

@@ -20,7 +20,7 @@ pub struct Server<F, J> {
 
 impl<F: Frames, J: Journal> Server<F, J> {
     pub fn new(setup: &Setup, frames: F, journal: J) -> Self {
-        let links = (0..setup.testers.len()).map(|who| Link::new(who, &setup.transport)).collect();
+        let links = setup.testers.iter().enumerate().map(|(who, it)| Link::new(who, it.fd, &setup.transport)).collect();
         Server { frames, journal, ecu: Ecu::new(setup), links, clocks: [0; 8], reply: Vec::new() }
     }
 
@@ -62,9 +62,22 @@ impl<F: Frames, J: Journal> Server<F, J> {
     /// Takes a frame of a tester.
     #[inline]
     pub fn frame(&mut self, who: usize, functional: bool, bytes: &[u8]) {
+        if bytes.len() > 8 {
+            return self.long_frame(who, functional, bytes);
+        }
+        self.take(who, functional, link::kind(bytes, self.links[who].max_request));
+    }
+
+    #[cold]
+    fn long_frame(&mut self, who: usize, functional: bool, bytes: &[u8]) {
+        self.take(who, functional, link::long_kind(bytes, self.links[who].max_request));
+    }
+
+    #[inline(always)]
+    fn take(&mut self, who: usize, functional: bool, kind: Kind) {
         let now = self.clocks[who];
         let link = &mut self.links[who];
-        match link::kind(bytes, link.max_request) {
+        match kind {
             Kind::Single(payload) => {
                 if !functional {
                     link.reception.close();
@@ -72,8 +85,8 @@ impl<F: Frames, J: Journal> Server<F, J> {
                 self.request(who, functional, Some(payload));
             }
             _ if functional => {}
-            Kind::First { length, head } => {
-                link.reception.open(length, head, now);
+            Kind::First { length, head, part } => {
+                link.reception.open(length, head, part, now);
                 link.sender.grant(link.granted, now, &mut self.frames);
             }
             Kind::Overflow => {

@@ -2,6 +2,7 @@
 //! a truth value or a text on one line.
 
 use crate::hex;
+use crate::link;
 use std::fmt::{self, Display, Formatter};
 
 /// The functional identifier of a tester of 29 bits that has none of its own.
@@ -23,12 +24,16 @@ impl Display for Id {
     }
 }
 
-/// The settings of a tester's link. Without a byte to fill frames with they aren't filled.
+/// The settings of a tester's link. Frames of up to 8 bytes are filled where `pad` says so, longer ones always. Frames to
+/// testers by CAN FD have `tx_dl` bytes at most, and these flags.
 pub struct Transport {
     pub block_size: u8,
     pub st_min: u8,
     pub max_request: usize,
-    pub pad_byte: Option<u8>,
+    pub pad: bool,
+    pub pad_byte: u8,
+    pub tx_dl: usize,
+    pub fd_flags: u8,
     pub n_bs_ms: u64,
     pub n_cr_ms: u64,
 }
@@ -38,6 +43,8 @@ pub struct Tester {
     pub request: Id,
     pub response: Id,
     pub functional: Id,
+    /// It talks by CAN FD.
+    pub fd: bool,
 }
 
 #[derive(Clone)]
@@ -318,11 +325,12 @@ fn tester(keys: &mut Keys, functional: u32) -> Result<Tester, SetupFault> {
     let response = keys.any_number("tester.response")?.ok_or(SetupFault::Missing("tester.response"))?;
     let wide = keys.truth("tester.extended", false)?;
     let own = keys.any_number("tester.functional")?;
+    let fd = keys.truth("tester.fd", false)?;
     let functional = own.unwrap_or(if wide { WIDE_FUNCTIONAL } else { functional });
     let most = if wide { 0x1FFF_FFFF } else { 0x7FF };
     keys.range([request, response].into_iter().chain(own).all(|it| it <= most));
     let id = |number| if wide { Id::Wide(number) } else { Id::Short(number as u16) };
-    Ok(Tester { name: name.to_string(), request: id(request), response: id(response), functional: id(functional) })
+    Ok(Tester { name: name.to_string(), request: id(request), response: id(response), functional: id(functional), fd })
 }
 
 fn did(keys: &mut Keys) -> Result<Did, SetupFault> {
@@ -417,7 +425,10 @@ impl Setup {
         let max_request = keys.number("max_request", 8, 65_535, Some(4095))? as usize;
         let pad = keys.truth("pad", true)?;
         let pad_byte = keys.number("pad_byte", 0, 255, Some(0xCC))? as u8;
-        Ok(Transport { block_size, st_min, max_request, pad_byte: pad.then_some(pad_byte), n_bs_ms, n_cr_ms })
+        let tx_dl = keys.number("tx_dl", 8, 64, Some(64))? as usize;
+        keys.range(link::is_long(tx_dl) || tx_dl == 8);
+        let fd_flags = keys.number("fd_flags", 0, 15, Some(1))? as u8;
+        Ok(Transport { block_size, st_min, max_request, pad, pad_byte, tx_dl, fd_flags, n_bs_ms, n_cr_ms })
     }
 
     fn sort(&mut self) {
@@ -434,6 +445,7 @@ impl Setup {
         let ids = || self.testers.iter().flat_map(|it| [it.request, it.response]);
         let repeats = has_two(ids())
             || ids().any(|id| self.testers.iter().any(|it| it.functional == id))
+            || self.testers.iter().any(|one| self.testers.iter().any(|it| it.functional == one.functional && it.fd != one.fd))
             || has_two(self.testers.iter().map(|it| &it.name))
             || has_two(self.dids.iter().map(|it| it.id))
             || has_two(self.codes.iter().map(|it| it.code))

@@ -6,17 +6,17 @@ use crate::hex;
 use crate::setup::Setup;
 use std::collections::VecDeque;
 
-/// The bytes of a frame.
+/// The bytes of a frame, which are `MOST` at most.
 #[derive(Clone, Copy, PartialEq)]
-struct Bytes {
-    bytes: [u8; 8],
+struct Bytes<const MOST: usize> {
+    bytes: [u8; MOST],
     len: u8,
 }
 
-impl Bytes {
+impl<const MOST: usize> Bytes<MOST> {
     #[inline]
-    fn of(frame: &[u8]) -> Bytes {
-        let mut bytes = [0; 8];
+    fn of(frame: &[u8]) -> Self {
+        let mut bytes = [0; MOST];
         bytes[..frame.len()].copy_from_slice(frame);
         Bytes { bytes, len: frame.len() as u8 }
     }
@@ -29,30 +29,30 @@ impl Bytes {
 }
 
 /// A frame of the capture, and the number of its line.
-struct Recorded {
+struct Recorded<const MOST: usize> {
     line: u64,
-    bytes: Bytes,
+    bytes: Bytes<MOST>,
 }
 
 /// A frame of the capture where the server sends other bytes, or none.
-struct Difference {
+struct Difference<const MOST: usize> {
     line: u64,
-    sent: Bytes,
-    expected: Option<Bytes>,
+    sent: Bytes<MOST>,
+    expected: Option<Bytes<MOST>>,
 }
 
 /// The frames by which the capture and the server are apart, of one tester. Nothing is kept behind a difference.
 #[derive(Default)]
-struct Pair {
-    ahead: VecDeque<Recorded>,
-    behind: VecDeque<Bytes>,
+struct Pair<const MOST: usize> {
+    ahead: VecDeque<Recorded<MOST>>,
+    behind: VecDeque<Bytes<MOST>>,
     count: u64,
-    difference: Option<Difference>,
+    difference: Option<Difference<MOST>>,
 }
 
-impl Pair {
+impl<const MOST: usize> Pair<MOST> {
     #[inline]
-    fn expect(&mut self, bytes: Bytes) {
+    fn expect(&mut self, bytes: Bytes<MOST>) {
         if self.difference.is_some() {
             return;
         }
@@ -63,7 +63,7 @@ impl Pair {
     }
 
     #[inline]
-    fn record(&mut self, frame: Recorded) {
+    fn record(&mut self, frame: Recorded<MOST>) {
         self.count += 1;
         if self.difference.is_some() {
             return;
@@ -75,7 +75,7 @@ impl Pair {
     }
 
     #[inline]
-    fn compare(&mut self, frame: Recorded, bytes: Bytes) {
+    fn compare(&mut self, frame: Recorded<MOST>, bytes: Bytes<MOST>) {
         if frame.bytes != bytes {
             self.difference = Some(Difference { line: frame.line, sent: frame.bytes, expected: Some(bytes) });
             self.ahead.clear();
@@ -84,7 +84,7 @@ impl Pair {
     }
 
     /// Returns the first difference, where the capture ends here.
-    fn first_difference(&self) -> Option<Difference> {
+    fn first_difference(&self) -> Option<Difference<MOST>> {
         match &self.difference {
             Some(it) => Some(Difference { line: it.line, sent: it.sent, expected: it.expected }),
             None => self.ahead.front().map(|it| Difference { line: it.line, sent: it.bytes, expected: None }),
@@ -95,16 +95,16 @@ impl Pair {
 /// Whether a frame says response pending.
 #[inline]
 fn is_pending(bytes: &[u8]) -> bool {
-    matches!(bytes, [0x03, 0x7F, _, 0x78, ..])
+    matches!(bytes, [0x03, 0x7F, _, 0x78, ..]) && bytes.len() <= 8
 }
 
-/// The frames of all testers, beside those of the capture.
-pub struct Verdict {
-    testers: Vec<Pair>,
+/// The frames of all testers, beside those of the capture. A frame has `MOST` bytes at most.
+pub struct Verdict<const MOST: usize> {
+    testers: Vec<Pair<MOST>>,
 }
 
-impl Verdict {
-    pub fn new(setup: &Setup) -> Verdict {
+impl<const MOST: usize> Verdict<MOST> {
+    pub fn new(setup: &Setup) -> Self {
         Verdict { testers: setup.testers.iter().map(|_| Pair::default()).collect() }
     }
 
@@ -132,7 +132,7 @@ impl Verdict {
     }
 }
 
-impl Frames for Verdict {
+impl<const MOST: usize> Frames for Verdict<MOST> {
     #[inline]
     fn frame(&mut self, who: usize, _time: u64, bytes: &[u8]) {
         if !is_pending(bytes) {
