@@ -29,7 +29,8 @@ class Tester:
             functional = dice.choice([0x18DB33F2, 0x7DE, 2] if wide else [0x7DE, 0x701])
         # now and then one that isn't allowed
         if dice.random() < 0.01:
-            request, response, functional = (dice.choice([it, 0x7E1, 0x800, 0x18DB33F1, 0x20000000]) for it in (request, response, functional))
+            others = [0x7E1, 0x800, 0x18DB33F1, 0x20000000]
+            request, response, functional = (dice.choice([it, *others]) for it in (request, response, functional))
         digits = 8 if wide else 3
         self.own, self.response = f"{request:0{digits}X}", f"{response:0{digits}X}"
         self.functional = f"{(0x18DB33F1 if wide else 0x7DF) if functional is None else functional:0{digits}X}"
@@ -73,7 +74,8 @@ def request(dice):
     if dice.random() < 0.03:
         # replies and requests of some 4095 bytes, behind which a FirstFrame has the other form
         reads = ["0101" * 15 + "0102" * 40, "0101" * 15 + "F190" * 2 + "0100" * 67, "0101" * 20]
-        return "22" + dice.choice(reads) if dice.random() < 0.6 else f"2E0101{dice.randbytes(dice.choice([4092, 4093, 5000])).hex().upper()}"
+        write = f"2E0101{dice.randbytes(dice.choice([4092, 4093, 5000])).hex().upper()}"
+        return "22" + dice.choice(reads) if dice.random() < 0.6 else write
     did = dice.choice(["F190", "0100", "0101", "0102", "FFFF"])
     suppress = dice.choice([0, 0, 0, 0x80])
     sub = lambda *of: f"{dice.choice(of) | suppress:02X}"
@@ -158,13 +160,16 @@ def flow(dice, tester):
 def fd_wrong(dice, own):
     """A line of CAN FD that isn't one."""
     data = dice.randbytes(dice.choice([9, 10, 13, 31, 63, 65, 66, 100])).hex()
-    return f"{own}##" + dice.choice([f"1{data}", "", "G00", "_", "1" + "00" * 64 + "0", "1" + "00" * 63 + "0", "10", "1" + "00" * 8 + "_9", "100G", "1" + "00" * 65, "1 ", "1#"])
+    ends = ["", "G00", "_", "10", "100G", "1 ", "1#", "1" + "00" * 8 + "_9", *("1" + "0" * it for it in (127, 129, 130))]
+    return f"{own}##{dice.choice([f'1{data}', *ends])}"
 
 
 FOREIGN = ["123#DEADBEEF", "18DB33F1#0210030000000000", "7E0#R8", "7E0##1021001", "7E8#065003003201F4", "7FF#", "00000000#zz"]
-FOREIGN += ["18FEF100#0102030405060708", "000007E0#023E00", "18da10f1#03220100", "18DAF110#065003003201F4", "20000004#00#", "FFFFFFFF#R", "18DB33F1##1", "123##1" + "AB" * 64]
+FOREIGN += ["18FEF100#0102030405060708", "000007E0#023E00", "18da10f1#03220100", "18DAF110#065003003201F4"]
+FOREIGN += ["20000004#00#", "FFFFFFFF#R", "18DB33F1##1", "123##1" + "AB" * 64]
 WRONG = ["7E0#023", "7E0#021003000000000000", "800#00", "FFF#R", "7E0#02G", "07E0#00", "7E0#021003_9", "7E0#023E00AAAAAAAAAA_", "7E0", ""]
-WRONG += ["018DA10F1#00", "8DA10F1#00", "18DA10F1", "18FEF1`0#00", "18FEF1@0#00", "\x118FEF100#00", "18FEF10G#00", "18FEF100R8", "é8FEF10#00"]
+WRONG += ["018DA10F1#00", "8DA10F1#00", "18DA10F1", "18FEF1`0#00", "18FEF1@0#00"]
+WRONG += ["\x118FEF100#00", "18FEF10G#00", "18FEF100R8", "é8FEF10#00"]
 BAD = ["tick 0", "tick 60001", "tick 01", "tick  5", "tickle", "tick 5 ", "can0 7E0#00", "(0.00000) can0 7E0#00", "(1.000000)can0 7E0#00", "(0.000000) 7E0#00", "\r", "x" * 5000, "(1.0000000000) can0 7E0#00"]
 
 
@@ -242,7 +247,8 @@ def with_replies(dice, capture, replies):
     """A capture with the server's replies among its lines or behind them, in order, now and then with one that is wrong or
     missing."""
     wrong = dice.choice([0, 0, 0.01])
-    kept = lambda it: it if dice.random() >= wrong else dice.choice(["", it.strip()[:-2] + "\n", it.strip()[:-2] + "5A\n", pending(dice, it) + it])
+    spoiled = lambda it: dice.choice(["", it.strip()[:-2] + "\n", it.strip()[:-2] + "5A\n", pending(dice, it) + it])
+    kept = lambda it: spoiled(it) if dice.random() < wrong else it
     mixed, replies = [], replies.splitlines(keepends=True)
     lines = capture.splitlines(keepends=True)
     behind = dice.random() < 0.5

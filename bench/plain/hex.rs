@@ -76,6 +76,30 @@ pub fn read_front(text: &[u8], room: &mut [u8]) -> usize {
     count
 }
 
+/// The same for up to 64 bytes: behind the first eight, eight at once as long as there are so many.
+#[inline(always)]
+pub fn read_long_front(text: &[u8], room: &mut [u8; 64]) -> usize {
+    let count = read_front(text, &mut room[..8]);
+    if count < 8 {
+        return count;
+    }
+    count + read_eights(&text[16..], &mut room[8..])
+}
+
+#[inline(never)]
+fn read_eights(text: &[u8], room: &mut [u8]) -> usize {
+    let mut count = 0;
+    for (digits, bytes) in text.chunks_exact(16).zip(room.chunks_exact_mut(8)) {
+        let values: [u16; 8] = std::array::from_fn(|at| HIGH[digits[2 * at] as usize] | LOW[digits[2 * at + 1] as usize]);
+        if values.iter().fold(0, |all, it| all | it) > 0xFF {
+            break;
+        }
+        bytes.iter_mut().zip(values).for_each(|(byte, value)| *byte = value as u8);
+        count += 8;
+    }
+    count + read_front(&text[2 * count..], &mut room[count..])
+}
+
 /// Returns the bytes of a whole text of digits.
 pub fn read(text: &str) -> Option<Vec<u8>> {
     let pairs = text.as_bytes().chunks(2);

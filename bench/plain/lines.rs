@@ -272,7 +272,7 @@ impl<'a> Lines<'a> {
         if !flags.is_ascii_hexdigit() {
             return Err(LineFault::BadLine);
         }
-        let len = hex::read_front(data, &mut frame.bytes);
+        let len = hex::read_long_front(data, &mut frame.bytes);
         if data.get(2 * len).is_some_and(u8::is_ascii_hexdigit) {
             return Err(if len == 64 { LineFault::TooManyBytes } else { LineFault::BadLine });
         }
