@@ -1,5 +1,5 @@
 -- A line of the usual form at the front of a text.
-use Rattle.std.proofs.Common.{◌≡◌, ◌==◌, ℕ, ◌+◌, ◌-◌, ◌<◌, ◌≤◌, nat_lt, true, false, cond, List, [], ◌∷◌, ◌++◌, append_assoc, length, length-append, take, drop, get_or, Some, None, Ok, refl, subst, sym, ap, ◌∙◌, arith, inl, inr, drop-cons, length-take-le, length-drop}
+use Rattle.std.proofs.Common.{◌≡◌, ◌==◌, ◌⊎◌, ℕ, ◌+◌, ◌-◌, ◌<◌, ◌≤◌, nat_lt, true, false, cond, List, [], ◌∷◌, ◌++◌, append_assoc, length, length-append, take, drop, get_or, Some, None, Ok, refl, subst, sym, ap, ◌∙◌, arith, inl, inr, drop-cons, length-take-le, length-drop}
 use Rattle.std.specs.List.{prefix_len}
 use Rattle.std.proofs.lemmas.Bool.{agree_below, agree_below_at, cases_lt, eqb-true, ne_eqb}
 use Rattle.std.proofs.lemmas.Bool.Decides.{nat_tests}
@@ -14,7 +14,7 @@ use Rattle.diag_can.specs.Lanes.{IsRunIn, IsWithin}
 use Rattle.diag_can.specs.Line.{line_says}
 use Rattle.diag_can.specs.Log.{is_feed, without_return}
 use Rattle.diag_can.specs.Stamp.{behind, is_mark, is_no_space}
-use Rattle.diag_can.specs.Usual.{BeginsFramed, HasDigits, IsFramed, IsUsual}
+use Rattle.diag_can.specs.Usual.{BeginsFramed, HasDigits, IsFd, IsFramed, IsUsual}
 use Rattle.diag_can.specs.declared.bus_line.BusLine.{BusLine}
 use Rattle.diag_can.specs.declared.frame.KnownId.{KnownId}
 use Rattle.diag_can.proofs.UsualLines.{bus_line-short}
@@ -47,7 +47,7 @@ module _ (text : List ℕ) (word : ℕ) (long : 28 ≤ length text) (front : IsW
   no_space c mark = grind (arith, nat_tests)
 
   -- a name ends at its first space, however long the line is
-  name_in : (n : ℕ) → 28 ≤ n → IsRunIn is_no_space (take n text) 20 8 word
+  name_in : (n : ℕ) → 21 + word < n → IsRunIn is_no_space (take n text) 20 8 word
   name_in n room = record {
     in_range = omega arith;
     pass = λ k from to. ap is_no_space (get_or-take n text k 0 (omega arith)) ∙ no_space (get_or text k 0) (marked _ (name.pass k from to));
@@ -78,7 +78,7 @@ module _ (text : List ℕ) (word : ℕ) (long : 28 ≤ length text) (front : IsW
         let inside : k < 21 + word = omega (arith, length-take-le (21 + word) text (omega arith), lt) in
         ap is_feed (get_or-take (21 + word) text k d inside ∙ get_or_default_zero text k d (omega arith)) ∙ no_feed_at k inside;
     framed = λ n least most.
-        framed_within (take n text) word (omega (arith, length-take-le n text most)) (within_in n 0 front_least front_most (omega arith) front)
+        framed_within (take n text) word (omega (arith, length-take-le n text most, least)) (within_in n 0 front_least front_most (omega arith) front)
         (within_in n 4 back_least back_most (omega arith) back) (name_in n least) some few
         (ap (λ (c : ℕ). c == 32) (get_or-take n text (21 + word) 0 (omega arith)) ∙ next);
   }
@@ -125,11 +125,12 @@ module _ (line part rest : List ℕ) (place width : ℕ) (cut : part ≡ take (l
       let here : width + 0 ≡ width = omega arith in
       sym (at_part width) ∙ (rw here at (sym (get_or-drop width part 0 0))) ∙ begins_with 35 (drop width part) rest hash
 
--- the text has such a line at its front, whose parts were read
-module _ (text line after : List ℕ) (place width : ℕ) (f : BeginsFramed text place) (h : HasDigits text line after (place + width + 1)) where
+-- the text has a line at its front, whose stamp and name were read
+module _ (text line after : List ℕ) (place : ℕ) (f : BeginsFramed text place) (inside : place < length line)
+    (ends : (text ≡ line ++ 10 ∷ after) ⊎ (text ≡ line ++ 13 ∷ 10 ∷ after)) where
   -- the text begins with it
   begins : (rest : List ℕ) × (text ≡ line ++ rest)
-  begins = elim h.ends [
+  begins = elim ends [
     | inl feed ↦ (10 ∷ after, feed)
     | inr both ↦ (13 ∷ 10 ∷ after, both)
   ]
@@ -140,8 +141,64 @@ module _ (text line after : List ℕ) (place width : ℕ) (f : BeginsFramed text
   taken : take (length line) text ≡ line
   taken = ap (take (length line)) begins.1 ∙ take_at line begins.0 (length line) refl
 
+  pub line_at : (k : ℕ) → k < length line → get_or line k 0 ≡ get_or text k 0
+  line_at k lt = ap (λ (t : List ℕ). get_or t k 0) (sym taken) ∙ get_or-take (length line) text k 0 lt
+
+  pub is_framed : IsFramed line place
+  is_framed = subst (λ (l : List ℕ). IsFramed l place) taken (f.framed (length line) inside fits)
+
+  -- and nothing in its frame ends it
+  module _ (few : length line ≤ 4095)
+      (frame_plain : (k : ℕ) → place ≤ k → k < length line → (is_feed (get_or line k 0) ≡ false) × ((13 == get_or line k 0) ≡ false)) where
+    -- it ends with no CR
+    without_cr : without_return line ≡ line
+    without_cr =
+        let last = drop-cons line (length line - 1) 0 (omega arith) in
+        let other : (13 == get_or line (length line - 1) 0) ≡ false = (frame_plain (length line - 1) (omega arith) (omega arith)).1 in
+        rw (last, other) refl
+
+    line_plain : HasNoFeed line
+    line_plain = λ k d lt. ap is_feed (get_or_default_zero line k d lt) ∙ no_feed k lt
+      where
+        no_feed : (k : ℕ) → k < length line → is_feed (get_or line k 0) ≡ false
+        no_feed k lt = elim (cases_lt k place) [
+          | inl before ↦
+              ap is_feed (line_at k lt ∙ sym (get_or-take place text k 0 before)) ∙ f.plain k 0 (omega (arith, length-take-le place text (omega (arith, fits, inside))))
+          | inr behind ↦ (frame_plain k behind lt).0
+        ]
+
+    -- with an LF behind it, or a CR and an LF
+    abbrev whole : List ℕ
+    whole = take (length text - length after - 1) text
+
+    ended : (text ≡ whole ++ 10 ∷ after) × HasNoFeed whole × (length whole ≤ length line + 1) × (without_return whole ≡ line)
+    ended = elim ends [
+      | inl feed ↦ ends_in line feed line_plain (omega arith) without_cr
+      | inr both ↦ ends_in (line ++ 13 ∷ []) (both ∙ sym (append_assoc line (13 ∷ []) (10 ∷ after)))
+          (All-append (λ c. is_feed c ≡ false) line (13 ∷ []) line_plain (All-cons (λ c. is_feed c ≡ false) 13 [] refl (All-nil (λ c. is_feed c ≡ false))))
+          (omega (arith, length-append line (13 ∷ []))) (without_its_cr line)
+    ]
+      where
+        ends_in : (w : List ℕ) → text ≡ w ++ 10 ∷ after → HasNoFeed w → length w ≤ length line + 1 → without_return w ≡ line
+            → (text ≡ whole ++ 10 ∷ after) × HasNoFeed whole × (length whole ≤ length line + 1) × (without_return whole ≡ line)
+        ends_in w is none few same =
+            subst (λ (t : List ℕ). (text ≡ t ++ 10 ∷ after) × HasNoFeed t × (length t ≤ length line + 1) × (without_return t ≡ line)) (sym (front_is text w after is)) (is, none, few, same)
+
+    -- it is the first line, which says this where these identifiers are read
+    pub first_line : (known : List KnownId) (said : BusLine) → line_says known line ≡ Ok said → IsFirstLine known text whole after (Some said)
+    first_line known said says = record {
+      is = ended.0;
+      plain = ended.1;
+      says = bus_line-short known whole line said (let more = ended.2 in omega arith) (sym ended.3) says;
+    }
+
+-- the text has such a line at its front, whose parts were read
+module _ (text line after : List ℕ) (place width : ℕ) (f : BeginsFramed text place) (h : HasDigits text line after (place + width + 1)) where
+  within : place < length line
+  within = let inside = h.inside in omega arith
+
   pub in_line : (k : ℕ) → k < length line → get_or line k 0 ≡ get_or text k 0
-  in_line k lt = ap (λ (t : List ℕ). get_or t k 0) (sym taken) ∙ get_or-take (length line) text k 0 lt
+  in_line = line_at text line after place f within h.ends
 
   module _ (id : (k : ℕ) → place ≤ k → k < place + width → is_hex_digit (get_or line k 0) ≡ true) (mark : get_or line (place + width) 0 ≡ 35) where
     pub is_usual : IsUsual line place width
@@ -149,7 +206,7 @@ module _ (text line after : List ℕ) (place width : ℕ) (f : BeginsFramed text
         let inside = h.inside in
         let few = h.few in
         record {
-          framed = subst (λ (l : List ℕ). IsFramed l place) taken (f.framed (length line) h.long fits);
+          framed = is_framed text line after place f within h.ends;
           inside = inside;
           few = omega arith;
           even = h.even;
@@ -168,48 +225,46 @@ module _ (text line after : List ℕ) (place width : ℕ) (f : BeginsFramed text
       ]
     ]
 
-    -- it ends with no CR
-    without_cr : without_return line ≡ line
-    without_cr =
-        let within = h.inside in
-        let last = drop-cons line (length line - 1) 0 (omega arith) in
-        let other : (13 == get_or line (length line - 1) 0) ≡ false = (frame_plain (length line - 1) (omega arith) (omega arith)).1 in
-        rw (last, other) refl
+    pub said_line : (known : List KnownId) (said : BusLine) → width ≤ 8 → line_says known line ≡ Ok said
+        → IsFirstLine known text (take (length text - length after - 1) text) after (Some said)
+    said_line known said narrow says =
+        let few = h.few in
+        let before = f.before in
+        first_line text line after place f within h.ends (omega arith) frame_plain known said says
 
-    line_plain : HasNoFeed line
-    line_plain = λ k d lt. ap is_feed (get_or_default_zero line k d lt) ∙ no_feed k lt
-      where
-        no_feed : (k : ℕ) → k < length line → is_feed (get_or line k 0) ≡ false
-        no_feed k lt = elim (cases_lt k place) [
-          | inl before ↦
-              ap is_feed (in_line k lt ∙ sym (get_or-take place text k 0 before)) ∙ f.plain k 0 (omega (arith, length-take-le place text (omega (arith, fits, h.inside))))
-          | inr inside ↦ (frame_plain k inside lt).0
-        ]
+-- the same of a line of CAN FD, with up to 128 digits behind its flags
+module _ (text line after : List ℕ) (place : ℕ) (f : BeginsFramed text place) (inside : place + 6 ≤ length line)
+    (ends : (text ≡ line ++ 10 ∷ after) ⊎ (text ≡ line ++ 13 ∷ 10 ∷ after)) (few : length line ≤ place + 134)
+    (id : (k : ℕ) → place ≤ k → k < place + 3 → is_hex_digit (get_or line k 0) ≡ true) (mark : get_or line (place + 3) 0 ≡ 35)
+    (second : get_or line (place + 4) 0 ≡ 35) (digits : (k : ℕ) → place + 5 ≤ k → k < length line → is_hex_digit (get_or line k 0) ≡ true) where
+  beyond : place < length line
+  beyond = omega arith
 
-    -- with an LF behind it, or a CR and an LF
-    abbrev whole : List ℕ
-    whole = take (length text - length after - 1) text
+  pub is_fd : IsFd line place
+  is_fd = record {
+    framed = is_framed text line after place f beyond ends;
+    inside = inside;
+    few = few;
+    id = id;
+    mark = mark;
+    second = second;
+    digits = digits;
+  }
 
-    ended : (text ≡ whole ++ 10 ∷ after) × HasNoFeed whole × (length whole ≤ length line + 1) × (without_return whole ≡ line)
-    ended = elim h.ends [
-      | inl feed ↦ ends_in line feed line_plain (omega arith) without_cr
-      | inr both ↦ ends_in (line ++ 13 ∷ []) (both ∙ sym (append_assoc line (13 ∷ []) (10 ∷ after)))
-          (All-append (λ c. is_feed c ≡ false) line (13 ∷ []) line_plain (All-cons (λ c. is_feed c ≡ false) 13 [] refl (All-nil (λ c. is_feed c ≡ false))))
-          (omega (arith, length-append line (13 ∷ []))) (without_its_cr line)
+  fd_plain : (k : ℕ) → place ≤ k → k < length line → (is_feed (get_or line k 0) ≡ false) × ((13 == get_or line k 0) ≡ false)
+  fd_plain k from lt = elim (cases_lt k (place + 3)) [
+    | inl digit ↦ plain_digit (get_or line k 0) (id k from digit)
+    | inr later ↦ elim (cases_lt k (place + 4)) [
+      | inl hash ↦ let here : k ≡ place + 3 = omega arith in rw (here, mark) (refl, refl)
+      | inr next ↦ elim (cases_lt k (place + 5)) [
+        | inl hash ↦ let here : k ≡ place + 4 = omega arith in rw (here, second) (refl, refl)
+        | inr further ↦ plain_digit (get_or line k 0) (digits k further lt)
+      ]
     ]
-      where
-        ends_in : (w : List ℕ) → text ≡ w ++ 10 ∷ after → HasNoFeed w → length w ≤ length line + 1 → without_return w ≡ line
-            → (text ≡ whole ++ 10 ∷ after) × HasNoFeed whole × (length whole ≤ length line + 1) × (without_return whole ≡ line)
-        ends_in w is none few same =
-            subst (λ (t : List ℕ). (text ≡ t ++ 10 ∷ after) × HasNoFeed t × (length t ≤ length line + 1) × (without_return t ≡ line)) (sym (front_is text w after is)) (is, none, few, same)
+  ]
 
-    short : length whole ≤ 45 + width
-    short = let few = h.few in let before = f.before in let more = ended.2 in omega arith
-
-    -- it is the first line, which says this where these identifiers are read
-    pub said_line : (known : List KnownId) (said : BusLine) → width ≤ 8 → line_says known line ≡ Ok said → IsFirstLine known text whole after (Some said)
-    said_line known said narrow says = record {
-      is = ended.0;
-      plain = ended.1;
-      says = bus_line-short known whole line said (omega (arith, short)) (sym ended.3) says;
-    }
+  pub fd_line : (known : List KnownId) (said : BusLine) → line_says known line ≡ Ok said
+      → IsFirstLine known text (take (length text - length after - 1) text) after (Some said)
+  fd_line known said says =
+      let before = f.before in
+      first_line text line after place f beyond ends (omega arith) fd_plain known said says

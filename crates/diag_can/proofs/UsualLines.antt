@@ -25,13 +25,13 @@ use Rattle.diag_can.specs.declared.frame.KnownId.{KnownId}
 
 -- ---- parts of a line, by the bytes that stand there
 
-behind_at : (byte : ℕ) (xs : List ℕ) (i : ℕ) → i < length xs → get_or xs i 0 ≡ byte → behind byte (drop i xs) ≡ Some (drop (i + 1) xs)
+pub behind_at : (byte : ℕ) (xs : List ℕ) (i : ℕ) → i < length xs → get_or xs i 0 ≡ byte → behind byte (drop i xs) ≡ Some (drop (i + 1) xs)
 behind_at byte xs i lt is =
     let here = drop-cons xs i 0 lt in
     let same : (get_or xs i 0 == byte) ≡ true = eq-eqb _ _ is in
     rw (here, same) (ap (λ (k : ℕ). Some (drop k xs)) (sym (add-one i)))
 
-run_at : (p : ℕ → Bool) (xs : List ℕ) (i n : ℕ) → i + n < length xs → ((k : ℕ) → k < n → p (get_or xs (i + k) 0) ≡ true)
+pub run_at : (p : ℕ → Bool) (xs : List ℕ) (i n : ℕ) → i + n < length xs → ((k : ℕ) → k < n → p (get_or xs (i + k) 0) ≡ true)
     → p (get_or xs (i + n) 0) ≡ false → prefix_len p (drop i xs) ≡ n
 run_at p xs i n lt all stop =
     prefix_len_is p (drop i xs) n 0 (omega (arith, length-drop i xs)) (λ k below. ap p (get_or-drop i xs k 0) ∙ all k below)
@@ -66,7 +66,7 @@ no_time (c ∷ line) some is = let first : c ≡ 40 = is in rw first refl
 run_of : (p : ℕ → Bool) (xs : List ℕ) (i w n : ℕ) → i + w ≤ length xs → n < w → IsRunIn p xs i w n → prefix_len p (drop i xs) ≡ n
 run_of p xs i w n le lt r = run_at p xs i n (omega arith) (λ k below. r.pass (i + k) (omega arith) (omega arith)) (r.stops lt)
 
-pub framed : (line : List ℕ) (word : ℕ) → 28 ≤ length line → get_or line 0 0 ≡ 40 → IsRunIn is_digit line 1 16 10 → get_or line 11 0 ≡ 46
+pub framed : (line : List ℕ) (word : ℕ) → 21 + word < length line → get_or line 0 0 ≡ 40 → IsRunIn is_digit line 1 16 10 → get_or line 11 0 ≡ 46
     → IsRunIn is_digit line 12 8 6 → get_or line 18 0 ≡ 41
     → get_or line 19 0 ≡ 32 → IsRunIn is_no_space line 20 8 word → 1 ≤ word → word ≤ 6 → (get_or line (21 + word) 0 == 32) ≡ false → IsFramed line (21 + word)
 framed line word long begins seconds dot fraction close space name some few next =
@@ -75,7 +75,7 @@ framed line word long begins seconds dot fraction close space name some few next
     let behind_name : get_or line (20 + word) 0 ≡ 32 = eqb-true _ _ (not-false _ (name.stops (omega arith))) in
     let last = one_space line (20 + word) (omega arith) behind_name (rw at next) in
     record {
-      long = long;
+      long = omega arith;
       inside = omega arith;
       seconds = seconds;
       fraction = fraction;
@@ -88,13 +88,13 @@ framed line word long begins seconds dot fraction close space name some few next
           (digits_at 6 9 6 line 12 refl (run_of is_digit line 12 8 6 (omega arith) (omega arith) fraction))
           (behind_at 41 line 18 (omega arith) close)
           (one_space line 19 (omega arith) space before)
-          (skip_at is_no_space word line 20 (omega arith) (run_of is_no_space line 20 8 word (omega arith) (omega arith) name))
+          (skip_at is_no_space word line 20 (omega arith) (run_at is_no_space line 20 word (omega arith) (λ k below. name.pass (20 + k) (omega arith) (omega arith)) (name.stops (omega arith))))
           (rw at at last);
     }
 
 -- ---- data that are hex digits alone
 
-all_run : (xs : List ℕ) → AllPass is_hex_digit xs → prefix_len is_hex_digit xs ≡ length xs
+pub all_run : (xs : List ℕ) → AllPass is_hex_digit xs → prefix_len is_hex_digit xs ≡ length xs
 all_run xs all = prefix_len_is is_hex_digit xs (length xs) 0 (omega arith) (λ k below. all k 0 below) (λ lt. absurd (omega arith))
 
 data_from_digits : (rest bytes : List ℕ) → AllPass is_hex_digit rest → length rest ≤ 16 → length rest % 2 ≡ 0 → decode_of rest ≡ Ok bytes
@@ -143,7 +143,7 @@ framed_line known [] text moment long plain stamp = absurd (omega arith)
 framed_line known (c ∷ line) text moment long plain stamp = rw (plain, stamp) refl
 
 -- and its frame
-stamped_says : (known : List KnownId) (line text : List ℕ) (moment : ℕ) (frame : Option Frame) → 0 < length line → is_time line ≡ false → stamped_frame line ≡ Some (moment, text)
+pub stamped_says : (known : List KnownId) (line text : List ℕ) (moment : ℕ) (frame : Option Frame) → 0 < length line → is_time line ≡ false → stamped_frame line ≡ Some (moment, text)
     → text_frame known text ≡ Ok frame → line_says known line ≡ Ok (Stamped moment frame)
 stamped_says known line text moment frame long plain stamp is = framed_line known line text moment long plain stamp ∙ ap (stamped moment) is
 

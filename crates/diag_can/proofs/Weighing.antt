@@ -51,7 +51,7 @@ weighed x0 x1 x2 x3 x4 x5 x6 x7 x8 x9 x10 x11 x12 x13 x14 x15 fits = (
 
 -- ---- a line
 
-module _ (line : List ℕ) (long : 28 ≤ length line) (fits : (k : ℕ) → get_or line k 0 < 256) where
+module _ (line : List ℕ) (long : 22 ≤ length line) (fits : (k : ℕ) → get_or line k 0 < 256) where
   at : (k : ℕ) → k < 16 → get_or (chunk 1 16 line) k 0 ≡ get_or line (1 + k) 0
   at k lt = get_or-take 16 (drop 1 line) k 0 lt ∙ get_or-drop 1 line k 0
 
@@ -86,7 +86,7 @@ unzeroed a b c d e f g h i j k l m = omega arith
 digit-is : (c : ℕ) → is_digit c ≡ true → c ≡ c - 48 + 48
 digit-is c h = let low : 48 ≤ c = grind (arith, nat_tests) in omega arith
 
-pub moment_weighed : (line : List ℕ) → 28 ≤ length line → IsRunIn is_digit line 1 16 10 → IsRunIn is_digit line 12 8 6
+pub moment_weighed : (line : List ℕ) → 22 ≤ length line → IsRunIn is_digit line 1 16 10 → IsRunIn is_digit line 12 8 6
     → (((get_or line 1 0 * 1000 + three_at line 2) * 1000 + three_at line 5) * 1000 + three_at line 8) * 1000 + three_at line 12 - 53333333333328
     ≡ usual_moment line
 moment_weighed line long seconds fraction =

@@ -108,7 +108,7 @@ back_least = 48 ∷ 48 ∷ 48 ∷ 48 ∷ 48 ∷ 48 ∷ 48 ∷ 46 ∷ 48 ∷ 48 �
 abbrev pub back_most : List ℕ
 back_most = 57 ∷ 57 ∷ 57 ∷ 57 ∷ 57 ∷ 57 ∷ 57 ∷ 46 ∷ 57 ∷ 57 ∷ 57 ∷ 57 ∷ 57 ∷ 57 ∷ 41 ∷ 32 ∷ []
 
-pub framed_within : (line : List ℕ) (word : ℕ) → 28 ≤ length line
+pub framed_within : (line : List ℕ) (word : ℕ) → 21 + word < length line
     → IsWithin line 0 front_least front_most → IsWithin line 4 back_least back_most
     → IsRunIn is_no_space line 20 8 word → 1 ≤ word → word ≤ 6 → (get_or line (21 + word) 0 == 32) ≡ false → IsFramed line (21 + word)
 framed_within line word long front back name some few next =

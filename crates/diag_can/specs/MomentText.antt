@@ -5,7 +5,7 @@ use Rattle.diag_can.specs.Stamp.{is_digit, moment_of}
 
 -- the line begins with a stamp of that form
 pub record HasUsualStamp (line : List ℕ) : Type 0 where
-  pub long : 28 ≤ length line
+  pub long : 22 ≤ length line
   pub seconds : IsRunIn is_digit line 1 16 10
   pub fraction : IsRunIn is_digit line 12 8 6
 

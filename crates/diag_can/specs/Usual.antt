@@ -15,7 +15,7 @@ three_at line i = slice_index line i * 100 + slice_index line (i + 1) * 10 + sli
 
 -- the line has a stamp of that form and a name, and there the frame's text
 pub record IsFramed (line : List ℕ) (place : ℕ) : Type 0 where
-  pub long : 28 ≤ length line
+  pub long : 22 ≤ length line
   pub inside : place < length line
   pub seconds : IsRunIn is_digit line 1 16 10
   pub fraction : IsRunIn is_digit line 12 8 6
@@ -28,12 +28,11 @@ pub record BeginsFramed (text : List ℕ) (place : ℕ) : Type 0 where
   pub after : 22 ≤ place
   pub before : place < 28
   pub plain : HasNoFeed (take place text)
-  pub framed : (n : ℕ) → 28 ≤ n → n ≤ length text → IsFramed (take n text) place
+  pub framed : (n : ℕ) → place < n → n ≤ length text → IsFramed (take n text) place
 
 -- in front of a line's end the text has this line, which has nothing but pairs of up to sixteen hex digits from a place on, and this
 -- behind the end
 pub record HasDigits (text line after : List ℕ) (at : ℕ) : Type 0 where
-  pub long : 28 ≤ length line
   pub inside : at ≤ length line
   pub few : length line ≤ at + 16
   pub even : (length line - at) % 2 ≡ 0
@@ -54,3 +53,14 @@ pub record IsUsual (line : List ℕ) (place width : ℕ) : Type 0 where
 -- its frame, with this identifier
 abbrev pub usual_frame : List ℕ → ℕ → ℕ → ℕ → Frame
 usual_frame line place width id = record { id = id; bytes = last_bytes line ((length line - (place + width + 1)) / 2) }
+
+-- a line of CAN FD with such a stamp and name: at this place its frame's text begins, with three digits of its identifier and two
+-- marks, and ends in hex digits: one of flags, and up to 128 more
+pub record IsFd (line : List ℕ) (place : ℕ) : Type 0 where
+  pub framed : IsFramed line place
+  pub inside : place + 6 ≤ length line
+  pub few : length line ≤ place + 134
+  pub id : (k : ℕ) → place ≤ k → k < place + 3 → is_hex_digit (slice_index line k) ≡ true
+  pub mark : slice_index line (place + 3) ≡ 35
+  pub second : slice_index line (place + 4) ≡ 35
+  pub digits : (k : ℕ) → place + 5 ≤ k → k < length line → is_hex_digit (slice_index line k) ≡ true

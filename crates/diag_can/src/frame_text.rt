@@ -1,6 +1,7 @@
 //! The text of a data frame.
 
 ghost use Rattle.std.specs.Prelude.{◌≡◌, ◌<◌, ◌≤◌, length, nat_lt, IsOk, Ok};
+ghost use Rattle.std.specs.Int.{to_le_bytes, w64};
 ghost use Rattle.hex.specs.Hex.{decode_of};
 ghost use Rattle.diag_can.specs.FrameText.{EndsInBytes, IsLastEight, last_bytes};
 
@@ -76,8 +77,7 @@ impl<'a> FrameText<'a> {
     }
 
     /// Its data, however many bytes these are.
-    #[cold]
-    #[inline(never)]
+    #[inline(always)]
     pub fn long_bytes(&self) -> FdBytes
         ensures { result ≡ self.now.bytes }
     {
@@ -91,24 +91,27 @@ fn last_eight(text: &[u8]) -> [u8; 8]
     ensures { IsLastEight text.now result }
 {
     if text.len() < 16 {
-        return eight_of_few(text);
+        return word_of_few(text).to_le_bytes();
     }
     eight_of_digits(&u8x16::from_slice(&text[text.len() - 16..]).to_array())
 }
 
-/// The same of a text with fewer bytes, in front of which zeros are put.
+/// The same of a text with fewer bytes, in front of which zeros are put; as a word, since bytes that a call answers are kept in
+/// memory for longer texts too.
 #[inline(never)]
-fn eight_of_few(text: &[u8]) -> [u8; 8]
+fn word_of_few(text: &[u8]) -> u64
     requires { length text.now < 16 }
-    ensures { IsLastEight text.now result }
+    ensures { IsLastEight text.now (to_le_bytes w64 result) }
 {
     let mut digits = [b'0'; 16];
     digits[16 - text.len()..].copy_from_slice(text);
-    eight_of_digits(&digits)
+    u64::from_le_bytes(eight_of_digits(&digits))
 }
 
 /// The bytes that hex digits write, up to 64: those of sixteen digits are looked at together, and so are those of the digits
 /// that are left.
+#[cold]
+#[inline(never)]
 fn bytes_of(digits: &[u8]) -> FdBytes
     requires hex { IsOk (decode_of digits.now) }
     requires few { length digits.now ≤ 128 }
@@ -119,6 +122,9 @@ fn bytes_of(digits: &[u8]) -> FdBytes
     while let Some((sixteen, tail)) = rest.split_first_chunk::<16>() {
         bytes.append(&eight_of_digits(sixteen));
         rest = tail;
+    }
+    if rest.is_empty() {
+        return bytes;
     }
     let last = FrameBytes::last_of(last_eight(rest), rest.len() / 2);
     bytes.append(last.as_slice());

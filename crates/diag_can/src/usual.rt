@@ -1,12 +1,12 @@
 //! A line of the usual form, of which many bytes are read at once: a stamp of ten digits and six, one space, a short name, one
 //! space, an identifier of three digits or of eight, and behind its `#` nothing but pairs of hex digits. Other lines are read
-//! part by part.
+//! part by part, but for those of CAN FD with such a stamp and an identifier of three digits.
 
 ghost use Rattle.std.specs.Prelude.{◌≡◌, ◌<◌, ◌≤◌, ◌+◌, List, length, take, drop, IfSome, Some, Ok};
 ghost use Rattle.diag_can.specs.Lanes.{IsRunIn};
-ghost use Rattle.diag_can.specs.Line.{id_of, line_says, wide_frame, wide_id_of};
+ghost use Rattle.diag_can.specs.Line.{fd_frame, id_of, line_says, wide_frame, wide_id_of};
 ghost use Rattle.diag_can.specs.Stamp.{is_digit};
-ghost use Rattle.diag_can.specs.Usual.{BeginsFramed, IsUsual, three_at, usual_frame};
+ghost use Rattle.diag_can.specs.Usual.{BeginsFramed, IsFd, IsUsual, three_at, usual_frame};
 ghost use Rattle.diag_can.specs.MomentText.{usual_moment};
 ghost use Rattle.diag_can.specs.declared.frame.KnownId.{KnownId as AKnownId};
 
@@ -14,12 +14,12 @@ use crate::bus_line::BusLine;
 use crate::frame::{CanId, KnownId};
 use crate::frame_text::FrameText;
 use crate::lanes::{eight_of_word, is_within};
-use crate::line::{has_extended, is_among, wide_id_of};
+use crate::line::{has_extended, is_among, is_fd_among, is_fd_length, wide_id_of};
 use crate::moment_text::MomentText;
 use std::simd::prelude::*;
 
-/// The shortest line that is looked at.
-pub const SHORTEST: usize = 28;
+/// The shortest text whose front is looked at.
+const SHORTEST: usize = 28;
 
 /// Where the text of the frame begins, whatever follows it.
 #[inline(always)]
@@ -29,7 +29,7 @@ pub fn text_place(line: &[u8]) -> Option<usize>
     if line.len() < SHORTEST {
         return None;
     }
-    // (both looks are taken before one question: no line is usual in one of them alone)
+    // Both looks are asked about at once: hardly a line passes only one of them.
     let is_front = is_within(line, 0, b"(0000000000.0000", b"(9999999999.9999");
     let is_back = is_within(line, 4, b"0000000.000000) ", b"9999999.999999) ");
     if !(is_front & is_back) {
@@ -93,11 +93,52 @@ fn wide_frame_from<'a>(known: &[KnownId], line: &'a [u8], place: usize) -> Optio
     }
 }
 
+/// What a line of CAN FD says where these identifiers are read, with this identifier in three digits at this place; None where it
+/// isn't well.
+#[inline(always)]
+pub fn fd_said<'a>(
+    known: &[KnownId],
+    line: &'a [u8],
+    place: usize,
+    id: CanId,
+) -> Option<BusLine<'a>>
+    requires fd { IsFd line.now place }
+    requires id { id_of (take 3 (drop place line.now)) ≡ Some id }
+    ensures { IfSome result (λ said. line_says known.now line.now ≡ Ok said) }
+{
+    let frame = fd_frame_from(known, line, place, id)?;
+    Some(BusLine::Stamped {
+        moment: MomentText::usual(line),
+        frame,
+    })
+}
+
+/// The frame of such a line, where its identifier is read by CAN FD.
+#[inline(always)]
+fn fd_frame_from<'a>(
+    known: &[KnownId],
+    line: &'a [u8],
+    place: usize,
+    id: CanId,
+) -> Option<Option<FrameText<'a>>>
+    requires { IsFd line.now place }
+    ensures { IfSome result (λ frame. fd_frame known.now id (drop (place + 5) line.now) ≡ Ok frame) }
+{
+    if !is_fd_among(known, id) {
+        return Some(None);
+    }
+    let digits = line.len() - (place + 6);
+    if digits % 2 == 1 || !is_fd_length(digits / 2) {
+        return None;
+    }
+    Some(Some(FrameText::new(id, line, digits / 2)))
+}
+
 /// Four times three bytes of the stamp, weighed as digits are: nine of the seconds, without the first, and the milliseconds.
 /// They are looked at together.
 #[inline(always)]
 fn threes(line: &[u8]) -> (u64, u64, u64, u64)
-    requires long { 28 ≤ length line.now }
+    requires long { 22 ≤ length line.now }
     ensures value { result
         ≡ (three_at line.now 2, three_at line.now 5, three_at line.now 8, three_at line.now 12) }
     ensures few { (result.0 < 28306) × (result.1 < 28306) × (result.2 < 28306) × (result.3 < 28306) }
@@ -115,7 +156,7 @@ const ZEROS: u64 = 53_333_333_333_328;
 /// The moment of the stamp in milliseconds.
 #[inline(always)]
 pub fn usual_moment(line: &[u8]) -> u64
-    requires long { 28 ≤ length line.now }
+    requires long { 22 ≤ length line.now }
     requires seconds { IsRunIn is_digit line.now 1 16 10 }
     requires fraction { IsRunIn is_digit line.now 12 8 6 }
     ensures { result ≡ usual_moment line.now }

@@ -244,7 +244,7 @@ impl LineWriter {
             return add_other(text, before, bytes);
         };
         add_eight(&mut line, eight);
-        // (what stood in its place has no memory, and isn't let go)
+        // The empty list in its place owns no memory: dropping it would only cost time.
         let _ = ManuallyDrop::new(mem::replace(text, line));
         Ok(())
     }

@@ -212,17 +212,17 @@ impl Ecu {
             *answer = negative_reply(functional, p[0], Nrc::ServiceNotSupported);
             return Ok(Effect::Nothing);
         };
-        let refusal = match service {
-            Service::TesterPresent => self.put_presence(who, p, answer),
-            Service::ReadDataByIdentifier => self.put_data(who, p, answer)?,
-            service => self.put_answer(who, service, p, answer)?,
+        let (refusal, effect) = match service {
+            Service::TesterPresent => (self.put_presence(who, p, answer), Effect::Nothing),
+            Service::ReadDataByIdentifier => (self.put_data(who, p, answer)?, Effect::Nothing),
+            service => (self.put_answer(who, service, p, answer)?, service.effect()),
         };
         match refusal {
             Some(nrc) => {
                 *answer = negative_reply(functional, p[0], nrc);
                 Ok(nrc.effect())
             }
-            None => Ok(service.effect()),
+            None => Ok(effect),
         }
     }
 

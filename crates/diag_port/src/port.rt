@@ -77,8 +77,12 @@ impl Port {
         requires rest { IsAtRest self.now }
         ensures is { result ≡ port_quiet (port_later passed (port_of self.now)) }
     {
+        let quiet = self.link.quiet_after(passed);
+        if self.held.is_empty() {
+            return quiet;
+        }
         let then = self.link.now().saturating_add(passed);
-        self.link.quiet_after(passed).min(self.held.until_due(then))
+        quiet.min(self.held.until_due(then))
     }
 
     /// Whether a ConsecutiveFrame of a reply is still to go, behind its separation time.

@@ -11,7 +11,7 @@ returns-in-Some c =
     let line = c.args.line.now in
     let place = c.in-Some.place in
     let begins = c.in-Some.ensures in
-    let framed = subst (λ l. IsFramed l place) (take_all (length line) line (omega arith)) (begins.framed (length line) begins.long (omega arith)) in
+    let framed = subst (λ l. IsFramed l place) (take_all (length line) line (omega arith)) (begins.framed (length line) (omega (arith, begins.long, begins.before)) (omega arith)) in
     let whole : take (length line - place) (drop place line) ≡ drop place line =
     take_all (length line - place) (drop place line) (omega (arith, length-drop place line)) in
     let says : c.framed_says.result ≡ stamped c.usual.result (text_frame c.args.known.now (take (length line - place) (drop place line))) = c.framed_says.ensures in
