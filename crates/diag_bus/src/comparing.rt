@@ -90,28 +90,20 @@ impl Comparison {
     }
 
     /// Takes the frame of the recording's line of that number, unless it says response pending.
+    #[inline(always)]
     fn record_frame(&mut self, line: u64, frame: &FrameText) -> Result<(), AllocError>
         ensures { OnOk result (Records self.old self.new (shown line frame.now.bytes)) }
     {
         if frame.is_long() {
-            return self.record_long(line, frame);
+            let bytes = frame.long_bytes();
+            return self.record(line, bytes.as_slice());
         }
         let bytes = frame.bytes();
         self.record(line, bytes.as_slice())
     }
 
-    /// The same of a frame of more than 8 bytes.
-    #[cold]
-    #[inline(never)]
-    fn record_long(&mut self, line: u64, frame: &FrameText) -> Result<(), AllocError>
-        ensures { OnOk result (Records self.old self.new (shown line frame.now.bytes)) }
-    {
-        let bytes = frame.long_bytes();
-        self.record(line, bytes.as_slice())
-    }
-
     /// The same of a frame of these bytes. One that the server has sent is looked at where it lies, and kept no longer.
-    #[inline(always)]
+    #[inline(never)]
     fn record(&mut self, line: u64, bytes: &[u8]) -> Result<(), AllocError>
         requires { length bytes.now ≤ 64 }
         ensures { OnOk result (Records self.old self.new (shown line bytes.now)) }

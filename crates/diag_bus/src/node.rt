@@ -234,7 +234,11 @@ impl Node {
         match owner {
             Owner::Nobody => Ok(()),
             Owner::Tester(who) => self.give(who, &LentEvent::physical(bytes.copy()), sink),
-            Owner::Functional => self.give_functional(setup, id, bytes, sink),
+            Owner::Functional => {
+                // (copied: what a call borrows lies in memory, and then would for a tester's own frame too)
+                let lent = bytes.copy();
+                self.give_functional(setup, id, &lent, sink)
+            }
         }
     }
 

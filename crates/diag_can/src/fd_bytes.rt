@@ -48,7 +48,12 @@ impl FdBytes {
     pub fn of_short(frame: &FrameBytes) -> FdBytes
         ensures { result ≡ frame.now }
     {
-        FdBytes::from_slice(frame.as_slice())
+        let mut bytes = [0; 64];
+        bytes[..8].copy_from_slice(frame.places());
+        FdBytes {
+            bytes,
+            len: frame.len(),
+        }
     }
 
     /// The same bytes.

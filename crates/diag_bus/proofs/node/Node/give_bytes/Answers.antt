@@ -1,4 +1,4 @@
-use Rattle.std.proofs.Common.{◌-◌, ◌∷◌, [], length, refl, ap, subst, sym, ◌∙◌, arith}
+use Rattle.std.proofs.Common.{ℕ, List, ◌-◌, ◌∷◌, [], length, refl, ap, subst, sym, ◌∙◌, arith}
 use Rattle.diag_can.specs.Event.{Event, Physical}
 use Rattle.diag_bus.specs.Node.{Lasts}
 use Rattle.diag_bus.specs.RequestIds.{IsOwner, given}
@@ -35,5 +35,8 @@ returns-in-Tester g c =
 
 pub returns-in-Functional : goal.returns-in-Functional
 returns-in-Functional g c =
-    passed_as _ _ refl (ap (λ o. given c.args.setup.now c.args.id (length c.args.setup.now.testers) o c.args.bytes.now) (sym c.in-Functional.is))
+    let setup = c.args.setup.now in
+    let n = length setup.testers in
+    passed_as _ _ refl (ap (λ (bytes : List ℕ). given setup c.args.id n owner.Functional bytes) c.copy-lent.ensures
+    ∙ ap (λ o. given setup c.args.id n o c.args.bytes.now) (sym c.in-Functional.is))
     c.give_functional.ensures
