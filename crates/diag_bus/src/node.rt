@@ -79,36 +79,7 @@ impl Node {
         Ok(())
     }
 
-    /// For how many ticks no port does anything before the last of them, where these are more than so many, and the sink
-    /// doesn't want them.
-    #[inline(always)]
-    fn rest_after<S: Sink>(&self, count: TickCount, sink: &S) -> Option<u64>
-        requires known { IsRest self.now.server self.now.rest }
-        ensures more { IfSome result (λ rest. count < rest) }
-        ensures is { IfSome result (λ rest. IsRest self.now.server rest) }
-        ensures silent { IsSome result → S.wants_ticks ≡ false }
-    {
-        if sink.wants_ticks() {
-            return None;
-        }
-        let count = u64::from(count.get());
-        if count < self.rest {
-            return Some(self.rest);
-        }
-        self.quiet_after(count)
-    }
-
-    /// The same, where the ports have to be looked at.
-    #[inline(never)]
-    fn quiet_after(&self, count: u64) -> Option<u64>
-        ensures more { IfSome result (λ rest. count < rest) }
-        ensures is { IfSome result (λ rest. IsRest self.now.server rest) }
-    {
-        let rest = self.server.quiet();
-        if count < rest { Some(rest) } else { None }
-    }
-
-    /// Gives the server so many ticks of each tester, in order.
+    /// Gives the server so many ticks of each tester, in order. Those in which no port does anything pass in one move.
     #[inline(always)]
     pub fn give_each<S: Sink>(
         &mut self,
@@ -120,11 +91,51 @@ impl Node {
         ensures { Passed S.took (StaysFor S.is_for S.aim) self.old sink.old self.new sink.new count
             (each_of (length setup.now.testers) (AnEvent.Ticks count)) result }
     {
-        if let Some(rest) = self.rest_after(count, sink) {
-            self.server.pass_quietly(setup, count);
-            self.rest = rest - u64::from(count.get());
-            return Ok(());
+        let ms = u64::from(count.get());
+        if sink.wants_ticks() || self.rest <= ms {
+            return self.give_to_ports(setup, count, sink);
         }
+        self.server.pass_quietly(setup, count);
+        self.rest -= ms;
+        Ok(())
+    }
+
+    /// The same, where the ports have to be looked at.
+    #[inline(never)]
+    fn give_to_ports<S: Sink>(
+        &mut self,
+        setup: &Setup,
+        count: TickCount,
+        sink: &mut S,
+    ) -> Result<(), AllocError>
+        requires { IsReady self.old (length setup.now.testers) count }
+        ensures { Passed S.took (StaysFor S.is_for S.aim) self.old sink.old self.new sink.new count
+            (each_of (length setup.now.testers) (AnEvent.Ticks count)) result }
+    {
+        let ms = u64::from(count.get());
+        if sink.wants_ticks() {
+            return self.give_ticks(setup, count, sink);
+        }
+        let rest = self.server.quiet();
+        if rest <= ms {
+            return self.give_ticks(setup, count, sink);
+        }
+        self.server.pass_quietly(setup, count);
+        self.rest = rest - ms;
+        Ok(())
+    }
+
+    /// The same, where some port does something or the sink wants the ticks.
+    fn give_ticks<S: Sink>(
+        &mut self,
+        setup: &Setup,
+        count: TickCount,
+        sink: &mut S,
+    ) -> Result<(), AllocError>
+        requires { IsReady self.old (length setup.now.testers) count }
+        ensures { Passed S.took (StaysFor S.is_for S.aim) self.old sink.old self.new sink.new count
+            (each_of (length setup.now.testers) (AnEvent.Ticks count)) result }
+    {
         self.give_to_each(setup, &LentEvent::ticks(count), sink)
     }
 

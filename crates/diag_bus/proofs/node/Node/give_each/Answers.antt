@@ -1,38 +1,14 @@
-use Rattle.std.proofs.Common.{◌-◌, ap, length, refl, subst, sym, arith}
-use Rattle.std.specs.Prelude.{OnOk, is_some}
-use Rattle.std.proofs.lemmas.Result.{on_ok_weaker}
-use Rattle.diag_can.specs.Event.{Event}
-use Rattle.diag_world.specs.Server.{each_of}
-use Rattle.diag_bus.specs.Node.{Gave, Lasts}
+use Rattle.std.proofs.Common.{◌-◌, ◌∙◌, length, refl, sym, arith}
 use Rattle.diag_bus.specs.Sink.{StaysFor}
-use Rattle.diag_bus.proofs.Paces.{ticks_time}
 use Rattle.diag_bus.proofs.Passing.{passed_quietly, stays_kept}
 use Rattle.diag_bus.proofs.node.Node.give_each.Goals as goal
 
-pub give_to_each-requires-clause-early : goal.give_to_each-requires-clause-early
-give_to_each-requires-clause-early g c =
-    let time = c.requires.early in
-    record { time = time.time; by = time.by; early = omega (arith, time.early) }
-
-pub returns-in-Some : goal.returns-in-Some
-returns-in-Some g c =
-    let sink = g.S.Sink in
-    passed_quietly sink.took (StaysFor sink.is_for sink.aim) (stays_kept sink.is_for sink.aim) c.args.self.now
-    (record { server = c.pass_quietly.new.self; drawn = c.args.self.now.drawn; rest = c.in-Some.rest - c.from.result }) c.args.sink.now
-    (length c.args.setup.now.testers) c.args.count c.in-Some.rest
-    (λ x setup lines K who count h. g.met.S.Sink.skips_ticks x setup lines K who count (c.rest_after.ensures.silent (ap is_some c.in-Some.is)) h)
-    c.pass_quietly.ensures.waited c.pass_quietly.ensures.rest c.in-Some.ensures.is
-    (omega (arith, c.from.ensures, c.get.ensures.value)) refl
-
 pub returns : goal.returns
 returns g c =
-    let count = c.args.count in
-    let most : Lasts c.ticks.result count = subst (λ (e : Event). Lasts e count) (sym c.ticks.ensures) (ticks_time count) in
-    record {
-      ok = subst (λ (e : Event). OnOk c.give_to_each.result (Gave g.S.Sink.took c.args.self.now c.args.sink.now c.give_to_each.new.self c.give_to_each.new.sink
-          (each_of (length c.args.setup.now.testers) e))) c.ticks.ensures c.give_to_each.ensures.ok;
-      kept = c.give_to_each.ensures.kept;
-      shape = c.give_to_each.ensures.shape;
-      pace = c.give_to_each.ensures.pace count most;
-      sent = on_ok_weaker c.give_to_each.result (λ sent. sent count most) c.give_to_each.ensures.sent;
-    }
+    let sink = g.S.Sink in
+    passed_quietly sink.took (StaysFor sink.is_for sink.aim) (stays_kept sink.is_for sink.aim) c.args.self.now
+    (record { server = c.pass_quietly.new.self; drawn = c.args.self.now.drawn; rest = c.args.self.now.rest - c.from-ms.result }) c.args.sink.now
+    (length c.args.setup.now.testers) c.args.count c.args.self.now.rest
+    (λ x setup lines K who count h. g.met.S.Sink.skips_ticks x setup lines K who count (sym c.wants_ticks.ensures ∙ c.if-wants_ticks.false) h)
+    c.pass_quietly.ensures.waited c.pass_quietly.ensures.rest c.requires.rest
+    (omega (arith, c.from-ms.ensures, c.get.ensures.value)) refl
