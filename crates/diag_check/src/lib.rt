@@ -114,6 +114,7 @@ fn no_text(bytes: &[u8]) -> &'static str {
         [0x1F, 0x8B, ..] => "the bytes are packed by gzip: unpack the setup",
         [0xFD, b'7', b'z', b'X', b'Z', 0, ..] => "the bytes are packed by xz: unpack the setup",
         [0x28, 0xB5, 0x2F, 0xFD, ..] => "the bytes are packed by zstd: unpack the setup",
+        [b'B', b'Z', b'h', b'1'..=b'9', ..] => "the bytes are packed by bzip2: unpack the setup",
         [0xFF, 0xFE, ..] | [0xFE, 0xFF, ..] | [_, 0, ..] | [0, _, ..] => {
             "the bytes are UTF-16: save the setup as UTF-8"
         }

@@ -48,6 +48,9 @@ fn packed_kind(first: &[u8]) -> Option<&'static str> {
         [0x28, 0xB5, 0x2F, 0xFD, ..] => Some(
             "packed by zstd: unpack it, or pipe what zstdcat writes into bus, verify or compare",
         ),
+        [b'B', b'Z', b'h', b'1'..=b'9', ..] => Some(
+            "packed by bzip2: unpack it, or pipe what bzcat writes into bus, verify or compare",
+        ),
         [b'P', b'K', 3, 4, ..] => Some("packed by zip: unpack it"),
         _ => None,
     }
