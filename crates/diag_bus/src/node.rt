@@ -268,31 +268,34 @@ impl Node {
         ensures { Passed S.took (StaysFor S.is_for S.aim) self.old sink.old self.new sink.new 0
             (functional_to_all setup.now id (length setup.now.testers) bytes.now) result }
     {
+        let event = LentEvent::functional(bytes.copy());
         for index in 0..setup.testers() {
             let who = setup.who(index);
-            self.give_functional_to(setup, who, id, bytes, sink)?;
+            self.give_functional_to(setup, who, id, &event, sink)?;
         }
         Ok(())
     }
 
     /// The same to one tester.
+    #[inline(always)]
     fn give_functional_to<S: Sink>(
         &mut self,
         setup: &Setup,
         who: TesterId,
         id: CanId,
-        bytes: &LentBytes<'_>,
+        event: &LentEvent<'_>,
         sink: &mut S,
     ) -> Result<(), AllocError>
         requires known { who ≤ length setup.now.testers }
         requires in_setup { who ≤ length self.old.server.ports }
         requires lists { length self.old.drawn.lists.items ≡ length self.old.server.ports }
         requires early { HasTime self.old.server 0 }
-        ensures { Passed S.took (StaysFor S.is_for S.aim) self.old sink.old self.new sink.new 0
-            (functional_to setup.now id bytes.now who) result }
+        ensures { (bytes : List ℕ) → event.now ≡ AnEvent.Functional bytes
+            → Passed S.took (StaysFor S.is_for S.aim) self.old sink.old self.new sink.new 0
+            (functional_to setup.now id bytes who) result }
     {
         if id == setup.ids(who).functional {
-            self.give(who, &LentEvent::functional(bytes.copy()), sink)
+            self.give(who, event, sink)
         } else {
             Ok(())
         }

@@ -9,14 +9,14 @@ use Rattle.diag_bus.proofs.Passing.{passed_as, passed_one}
 use Rattle.diag_bus.proofs.node.Node.give_functional_to.Goals as goal
 
 pub returns-then-eq : goal.returns-then-eq
-returns-then-eq g c =
+returns-then-eq g c bytes is =
     let setup = c.args.setup.now in
     let who = c.args.who in
     let id = c.args.id in
     let same = eqb-true id c.ids.result.functional (sym c.eq.ensures ∙ c.if-eq.true) in
     let asks : id ≡ (ids_of setup who).functional = same ∙ ap (λ (i : Ids). i.functional) c.ids.ensures in
-    let to_it : (who, Functional c.args.bytes.now) ∷ [] ≡ functional_to setup id c.args.bytes.now who =
+    let to_it : (who, Functional bytes) ∷ [] ≡ functional_to setup id bytes who =
     rw (eq-eqb id (ids_of setup who).functional asks) refl in
-    let now : Lasts c.functional.result 0 = subst (λ (e : Event). Lasts e 0) (sym c.functional.ensures) (λ now. omega arith) in
-    passed_as _ _ refl (ap (λ (e : Event). (who, e) ∷ []) (c.functional.ensures ∙ ap Functional c.copy.ensures) ∙ to_it)
-    (passed_one _ _ who c.functional.result now c.give.ensures.ok c.give.ensures.kept c.give.ensures.shape c.give.ensures.pace c.give.ensures.sent)
+    let now : Lasts c.args.event.now 0 = subst (λ (e : Event). Lasts e 0) (sym is) (λ now. omega arith) in
+    passed_as _ _ refl (ap (λ (e : Event). (who, e) ∷ []) is ∙ to_it)
+    (passed_one _ _ who c.args.event.now now c.give.ensures.ok c.give.ensures.kept c.give.ensures.shape c.give.ensures.pace c.give.ensures.sent)
