@@ -1,5 +1,5 @@
 -- Whose the frames of an identifier are.
-use Rattle.std.specs.Prelude.{◌≡◌, ◌≤◌, ◌==◌, if◌then◌else◌, ℕ, List, [], ◌∷◌, length, Some, slice_get}
+use Rattle.std.specs.Prelude.{◌≡◌, ◌+◌, ◌≤◌, ◌==◌, if◌then◌else◌, ℕ, List, [], ◌∷◌, length, Some, slice_get}
 use Rattle.std.specs.List.{flat_map}
 use Rattle.diag_can.specs.Event.{Event}
 use Rattle.diag_can.specs.Event as event
@@ -43,9 +43,15 @@ pub record IsOwner (setup : RawSetup) (id n : ℕ) (owner : Owner) : Type 0 wher
       → flat_map (frame_to setup (Some (record { id = id; bytes = bytes }))) (counted_from 1 n)
       ≡ given setup id n owner bytes
 
+-- these are the functional identifiers of so many testers, in order
+pub record AreFunctional (setup : RawSetup) (ids : List ℕ) (n : ℕ) : Type 0 where
+  pub many : length ids ≡ n
+  pub each : (i id : ℕ) → slice_get ids i ≡ Some id → id ≡ (ids_of setup (i + 1)).functional
+
 -- there is one for each identifier of 11 bits, and the others that are read are known
 pub record AreRequestsOf (setup : RawSetup) (ids : RequestIds) : Type 0 where
   pub many : length ids.owners.items ≡ 2048
   pub known : ids.known.items ≡ known_ids setup
+  pub functional : AreFunctional setup ids.functional.items (length setup.testers)
   pub each : (id : ℕ) (owner : Owner) → slice_get ids.owners.items id ≡ Some owner
       → IsOwner setup id (length setup.testers) owner

@@ -181,6 +181,7 @@ impl Node {
     fn give_frame<S: Sink>(
         &mut self,
         setup: &Setup,
+        ids: &RequestIds,
         owner: Owner,
         frame: &FrameText,
         sink: &mut S,
@@ -188,6 +189,7 @@ impl Node {
         requires in_setup { length self.old.server.ports ≡ length setup.now.testers }
         requires lists { length self.old.drawn.lists.items ≡ length setup.now.testers }
         requires owner { IsOwner setup.now frame.now.id (length setup.now.testers) owner }
+        requires ids { AreRequestsOf setup.now ids.now }
         requires early { HasTime self.old.server 0 }
         ensures { Passed S.took (StaysFor S.is_for S.aim) self.old sink.old self.new sink.new 0
             (given setup.now frame.now.id (length setup.now.testers) owner frame.now.bytes) result }
@@ -196,10 +198,17 @@ impl Node {
             return Ok(());
         }
         if frame.is_long() {
-            return self.give_long(setup, owner, frame, sink);
+            return self.give_long(setup, ids, owner, frame, sink);
         }
         let bytes = frame.bytes();
-        self.give_bytes(setup, owner, frame.id(), &LentBytes::short(&bytes), sink)
+        self.give_bytes(
+            setup,
+            ids,
+            owner,
+            frame.id(),
+            &LentBytes::short(&bytes),
+            sink,
+        )
     }
 
     /// The same of a frame of more than 8 bytes.
@@ -208,6 +217,7 @@ impl Node {
     fn give_long<S: Sink>(
         &mut self,
         setup: &Setup,
+        ids: &RequestIds,
         owner: Owner,
         frame: &FrameText,
         sink: &mut S,
@@ -216,13 +226,14 @@ impl Node {
         requires in_setup { length self.old.server.ports ≡ length setup.now.testers }
         requires lists { length self.old.drawn.lists.items ≡ length setup.now.testers }
         requires owner { IsOwner setup.now frame.now.id (length setup.now.testers) owner }
+        requires ids { AreRequestsOf setup.now ids.now }
         requires early { HasTime self.old.server 0 }
         ensures { Passed S.took (StaysFor S.is_for S.aim) self.old sink.old self.new sink.new 0
             (given setup.now frame.now.id (length setup.now.testers) owner frame.now.bytes) result }
     {
         let bytes = frame.long_bytes();
         let lent = LentBytes::long(bytes.as_slice());
-        self.give_bytes(setup, owner, frame.id(), &lent, sink)
+        self.give_bytes(setup, ids, owner, frame.id(), &lent, sink)
     }
 
     /// Gives the server a frame of this identifier and these bytes, by whose it is.
@@ -230,6 +241,7 @@ impl Node {
     fn give_bytes<S: Sink>(
         &mut self,
         setup: &Setup,
+        ids: &RequestIds,
         owner: Owner,
         id: CanId,
         bytes: &LentBytes<'_>,
@@ -238,6 +250,7 @@ impl Node {
         requires in_setup { length self.old.server.ports ≡ length setup.now.testers }
         requires lists { length self.old.drawn.lists.items ≡ length setup.now.testers }
         requires owner { IsOwner setup.now id (length setup.now.testers) owner }
+        requires ids { AreRequestsOf setup.now ids.now }
         requires early { HasTime self.old.server 0 }
         ensures { Passed S.took (StaysFor S.is_for S.aim) self.old sink.old self.new sink.new 0
             (given setup.now id (length setup.now.testers) owner bytes.now) result }
@@ -248,7 +261,7 @@ impl Node {
             Owner::Functional => {
                 // (copied: what a call borrows lies in memory, and then would for a tester's own frame too)
                 let lent = bytes.copy();
-                self.give_functional(setup, id, &lent, sink)
+                self.give_functional(setup, ids, id, &lent, sink)
             }
         }
     }
@@ -258,12 +271,14 @@ impl Node {
     fn give_functional<S: Sink>(
         &mut self,
         setup: &Setup,
+        ids: &RequestIds,
         id: CanId,
         bytes: &LentBytes<'_>,
         sink: &mut S,
     ) -> Result<(), AllocError>
         requires in_setup { length self.old.server.ports ≡ length setup.now.testers }
         requires lists { length self.old.drawn.lists.items ≡ length setup.now.testers }
+        requires ids { AreRequestsOf setup.now ids.now }
         requires early { HasTime self.old.server 0 }
         ensures { Passed S.took (StaysFor S.is_for S.aim) self.old sink.old self.new sink.new 0
             (functional_to_all setup.now id (length setup.now.testers) bytes.now) result }
@@ -271,7 +286,7 @@ impl Node {
         let event = LentEvent::functional(bytes.copy());
         for index in 0..setup.testers() {
             let who = setup.who(index);
-            self.give_functional_to(setup, who, id, &event, sink)?;
+            self.give_functional_to(setup, ids, who, id, &event, sink)?;
         }
         Ok(())
     }
@@ -281,6 +296,7 @@ impl Node {
     fn give_functional_to<S: Sink>(
         &mut self,
         setup: &Setup,
+        ids: &RequestIds,
         who: TesterId,
         id: CanId,
         event: &LentEvent<'_>,
@@ -289,12 +305,13 @@ impl Node {
         requires known { who ≤ length setup.now.testers }
         requires in_setup { who ≤ length self.old.server.ports }
         requires lists { length self.old.drawn.lists.items ≡ length self.old.server.ports }
+        requires ids { AreRequestsOf setup.now ids.now }
         requires early { HasTime self.old.server 0 }
         ensures { (bytes : List ℕ) → event.now ≡ AnEvent.Functional bytes
             → Passed S.took (StaysFor S.is_for S.aim) self.old sink.old self.new sink.new 0
             (functional_to setup.now id bytes who) result }
     {
-        if id == setup.ids(who).functional {
+        if id == ids.functional(setup, who) {
             self.give(who, event, sink)
         } else {
             Ok(())
@@ -346,7 +363,10 @@ impl Node {
         match said {
             BusLine::Empty | BusLine::Ticks(_) => Ok(()),
             BusLine::Stamped { moment: _, frame } => match frame {
-                Some(frame) => self.give_frame(setup, ids.owner(setup, frame.id()), frame, sink),
+                Some(frame) => {
+                    let owner = ids.owner(setup, frame.id());
+                    self.give_frame(setup, ids, owner, frame, sink)
+                }
                 None => Ok(()),
             },
         }

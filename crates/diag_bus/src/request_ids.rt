@@ -1,9 +1,9 @@
 //! Whose a frame of the bus is, by its identifier.
 
-ghost use Rattle.std.specs.Prelude.{◌≡◌, length, IfOk};
-ghost use Rattle.diag_setup.specs.Setup.{known_ids};
+ghost use Rattle.std.specs.Prelude.{◌≡◌, ◌≤◌, length, IfOk};
+ghost use Rattle.diag_setup.specs.Setup.{ids_of, known_ids};
 ghost use Rattle.diag_setup.specs.declared.raw.RawSetup.{RawSetup};
-ghost use Rattle.diag_bus.specs.RequestIds.{AreRequestsOf, IsOwner};
+ghost use Rattle.diag_bus.specs.RequestIds.{AreFunctional, AreRequestsOf, IsOwner};
 
 use diag_can::{CanId, KnownId};
 use diag_setup::{Setup, TesterId};
@@ -30,6 +30,8 @@ pub struct RequestIds {
     pub owners: Vec<Owner>,
     /// Those of which lines are read that are passed over otherwise: of 29 bits, or by CAN FD.
     pub known: Vec<KnownId>,
+    /// The functional identifier of each tester, in order.
+    pub functional: Vec<CanId>,
 }
 
 impl RequestIds {
@@ -45,7 +47,12 @@ impl RequestIds {
             owners.push(owner_of(setup, id))?;
         }
         let known = setup.known_ids(alloc)?;
-        Ok(RequestIds { owners, known })
+        let functional = functional_ids(alloc, setup)?;
+        Ok(RequestIds {
+            owners,
+            known,
+            functional,
+        })
     }
 
     /// The identifiers of which lines are read that are passed over otherwise.
@@ -54,6 +61,18 @@ impl RequestIds {
         ensures { (setup : RawSetup) → AreRequestsOf setup self.now → result.now ≡ known_ids setup }
     {
         self.known.as_slice()
+    }
+
+    /// The functional identifier of a tester.
+    #[inline(always)]
+    pub fn functional(&self, setup: &Setup, who: TesterId) -> CanId
+        requires ids { AreRequestsOf setup.now self.now }
+        requires known { who ≤ length setup.now.testers }
+        ensures { result ≡ (ids_of setup.now who).functional }
+    {
+        // (for its contract: the identifiers are those of its testers)
+        let _ = setup;
+        self.functional[who.index()]
     }
 
     /// Whose a frame of this identifier is: those of 11 bits are looked up in a table.
@@ -67,6 +86,18 @@ impl RequestIds {
         }
         self.owners[id.rank() as usize]
     }
+}
+
+/// The functional identifier of each tester of a setup, in order.
+fn functional_ids(alloc: Global, setup: &Setup) -> Result<Vec<CanId>, AllocError>
+    ensures { IfOk result (λ ids. AreFunctional setup.now ids.items (length setup.now.testers)) }
+{
+    let mut ids = Vec::new(alloc);
+    for index in 0..setup.testers() {
+        let who = setup.who(index);
+        ids.push(setup.ids(who).functional)?;
+    }
+    Ok(ids)
 }
 
 /// Whose the frames of an identifier are.

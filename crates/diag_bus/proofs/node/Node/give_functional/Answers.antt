@@ -19,6 +19,7 @@ give_functional_to-requires g c =
       known = omega (arith, who, within, c.loop-index-test.true);
       in_setup = omega (arith, who, within, c.loop-index-test.true, inv.shape.ports, c.requires.in_setup);
       lists = omega (arith, inv.shape.ports, inv.shape.lists, c.requires.in_setup, c.requires.lists);
+      ids = c.requires.ids;
       early = has_left c.args.self.now.server c.loop-index.self.server 0 0 0 (omega arith) c.requires.early inv.pace;
     }
 

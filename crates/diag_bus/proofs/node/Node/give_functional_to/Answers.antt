@@ -1,7 +1,6 @@
 use Rattle.std.proofs.Common.{◌≡◌, ◌∷◌, [], refl, ap, subst, sym, ◌∙◌, arith}
 use Rattle.std.proofs.lemmas.Bool.{eq-eqb, eqb-true}
 use Rattle.diag_can.specs.Event.{Event, Functional}
-use Rattle.diag_can.specs.declared.frame.Ids.{Ids}
 use Rattle.diag_setup.specs.Setup.{ids_of}
 use Rattle.diag_bus.specs.Node.{Lasts}
 use Rattle.diag_bus.specs.RequestIds.{functional_to}
@@ -13,8 +12,7 @@ returns-then-eq g c bytes is =
     let setup = c.args.setup.now in
     let who = c.args.who in
     let id = c.args.id in
-    let same = eqb-true id c.ids.result.functional (sym c.eq.ensures ∙ c.if-eq.true) in
-    let asks : id ≡ (ids_of setup who).functional = same ∙ ap (λ (i : Ids). i.functional) c.ids.ensures in
+    let asks : id ≡ (ids_of setup who).functional = eqb-true id c.functional.result (sym c.eq.ensures ∙ c.if-eq.true) ∙ c.functional.ensures in
     let to_it : (who, Functional bytes) ∷ [] ≡ functional_to setup id bytes who =
     rw (eq-eqb id (ids_of setup who).functional asks) refl in
     let now : Lasts c.args.event.now 0 = subst (λ (e : Event). Lasts e 0) (sym is) (λ now. omega arith) in

@@ -10,7 +10,7 @@ use Rattle.diag_bus.proofs.Passing.{no_frame, passed_as, passed_quiet, passed_th
 use Rattle.diag_bus.proofs.node.Node.take.Goals as goal
 
 pub give_frame-requires-clause-owner : goal.give_frame-requires-clause-owner
-give_frame-requires-clause-owner g c = rw (sym c.id.ensures) c.owner.ensures
+give_frame-requires-clause-owner g c = rw (sym c.id.ensures) c.owner-owner.ensures
 
 pub give_frame-requires-clause-early : goal.give_frame-requires-clause-early
 give_frame-requires-clause-early g c =
@@ -21,8 +21,8 @@ returns-in-Some g c =
     let setup = c.args.setup.now in
     let n = length setup.testers in
     let frame : Frame = c.in-Some.frame in
-    let owner = c.owner.result in
-    let owns : IsOwner setup frame.id n owner = rw (sym c.id.ensures) c.owner.ensures in
+    let owner = c.owner-owner.result in
+    let owns : IsOwner setup frame.id n owner = rw (sym c.id.ensures) c.owner-owner.ensures in
     let frames : flat_map (frame_to setup (frame_said c.args.said.now)) (counted_from 1 n) ≡ given setup frame.id n owner frame.bytes =
     ap (λ s. flat_map (frame_to setup (frame_said s)) (counted_from 1 n)) (c.in-Stamped.is ∙ ap (λ f. Stamped c.in-Stamped.moment f) c.in-Some.is)
     ∙ owns.gives frame.bytes in

@@ -26,5 +26,6 @@ pub returns : goal.returns
 returns c = record {
   many = omega (arith, c.loop-number.invariant.many, c.loop-number-test.false);
   known = c.in_ok-known.ensures;
+  functional = c.in_ok-functional.ensures;
   each = c.loop-number.invariant.each;
 }
