@@ -1,8 +1,8 @@
 -- Eight bytes as one number, moved to the front together.
-use Rattle.std.proofs.Common.{◌≡◌, ℕ, zero, suc, ◌+◌, ◌-◌, ◌*◌, ◌/◌, ◌%◌, ◌^◌, ◌<◌, ◌≤◌, List, [], ◌∷◌, length, take, drop, get_or, refl, sym, ap, ◌∙◌, arith, pow-add}
+use Rattle.std.proofs.Common.{◌≡◌, ℕ, zero, suc, ◌+◌, ◌-◌, ◌*◌, ◌/◌, ◌%◌, ◌^◌, ◌<◌, ◌≤◌, List, [], ◌∷◌, length, take, drop, get_or, refl, sym, subst, ap, ◌∙◌, arith, pow-add}
 use Rattle.std.specs.Int.{w64, byte_at, bytes_low_first, from_le_bytes, to_le_bytes}
 use Rattle.std.proofs.lemmas.List.{drop-take, take-take}
-use Rattle.std.proofs.lemmas.Nat.{le_bytes_8}
+use Rattle.std.proofs.lemmas.Nat.{from_le_bytes-to_le_bytes_8, le_bytes_8}
 use native.Mathlib.Nat.{div-div-eq-div-mul, div-one, pow-zero, pow-suc}
 
 -- a byte of a number is what its place says
@@ -45,6 +45,12 @@ power zero = refl
 power (suc k) =
     let more : 8 * suc k ≡ 8 * k + 8 = omega arith in
     ap (λ (e : ℕ). 2 ^ e) more ∙ pow-add 2 (8 * k) 8 ∙ ap (λ (p : ℕ). p * 256) (power k) ∙ sym (pow-suc 256 k)
+
+-- the bytes of a word are bytes
+low_small : (i k n j : ℕ) → get_or (bytes_low_first i k n) j 0 < 256
+low_small i zero n j = omega arith
+low_small i (suc k) n zero = subst (λ (m : ℕ). m < 256) (sym (byte_is i n)) (omega arith)
+low_small i (suc k) n (suc j) = low_small (suc i) k n j
 
 -- the bytes from a place on, of the number that is moved by as many bytes
 moved-by : (bytes out : List ℕ) (from count n : ℕ) → length bytes ≡ 8 → ((i : ℕ) → get_or bytes i 0 < 256) → n ≡ from_le_bytes w64 bytes
@@ -94,3 +100,9 @@ behind_one (a ∷ b ∷ c ∷ d ∷ e ∷ f ∷ g ∷ h ∷ []) out len first n 
     in-front bytes small zero = byte
     in-front bytes small (suc i) = small-take bytes 7 i small
 behind_one bytes out len first n full small is few byte at = absurd (omega arith)
+
+-- the last of a word's bytes, so many
+pub moved_word : (out : List ℕ) (count n : ℕ) → n < 2 ^ 64 → count ≤ 8 → out ≡ to_le_bytes w64 (n / 2 ^ (8 * (8 - count)))
+    → take count out ≡ drop (8 - count) (to_le_bytes w64 n)
+moved_word out count n fits few at =
+    moved (to_le_bytes w64 n) out count n refl (low_small 0 8 n) (sym (from_le_bytes-to_le_bytes_8 n fits)) few at

@@ -85,21 +85,21 @@ impl<'a> FrameText<'a> {
     }
 }
 
-/// The bytes that the last sixteen bytes of a text write, looked at together; as far as these are hex digits from the end.
+/// The bytes that the last sixteen bytes of a text write, looked at together; as far as these are hex digits from the end. They
+/// are answered as a word, the first byte lowest: bytes would lie in memory.
 #[inline(always)]
-fn last_eight(text: &[u8]) -> [u8; 8]
-    ensures { IsLastEight text.now result }
+fn last_eight(text: &[u8]) -> u64
+    ensures { IsLastEight text.now (to_le_bytes w64 result) }
 {
     if text.len() < 16 {
-        return word_of_few(text).to_le_bytes();
+        return eight_of_few(text);
     }
-    eight_of_digits(&u8x16::from_slice(&text[text.len() - 16..]).to_array())
+    u64::from_le_bytes(eight_of_digits(&u8x16::from_slice(&text[text.len() - 16..]).to_array()))
 }
 
-/// The same of a text with fewer bytes, in front of which zeros are put; as a word, since bytes that a call answers are kept in
-/// memory for longer texts too.
+/// The same of a text with fewer bytes, in front of which zeros are put.
 #[inline(never)]
-fn word_of_few(text: &[u8]) -> u64
+fn eight_of_few(text: &[u8]) -> u64
     requires { length text.now < 16 }
     ensures { IsLastEight text.now (to_le_bytes w64 result) }
 {

@@ -1,4 +1,5 @@
 use Rattle.std.proofs.Common.{ℕ, List, ◌++◌, Ok, ap, sym, ◌∙◌, arith}
+use Rattle.std.specs.Int.{to_le_bytes, w64}
 use Rattle.diag_can.proofs.FdTexts.{all_read, more_read, none_read}
 use Rattle.diag_can.proofs.frame_text.bytes_of.Goals as goal
 
@@ -17,5 +18,5 @@ pub returns : goal.returns
 returns c =
     let bytes = c.loop-sixteen.bytes in
     let last = c.as_slice.ensures.bytes ∙ c.last_of-last.ensures in
-    all_read c.loop-sixteen.invariant c.last_eight.result (omega (arith, c.in_default.ensures.cases)) c.last_eight.ensures
+    all_read c.loop-sixteen.invariant (to_le_bytes w64 c.last_eight.result) (omega (arith, c.in_default.ensures.cases)) c.last_eight.ensures
     ∙ ap (λ (t : List ℕ). Ok t) (sym (c.append-2.ensures ∙ ap (λ (t : List ℕ). bytes ++ t) last))

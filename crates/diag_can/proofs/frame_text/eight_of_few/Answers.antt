@@ -4,7 +4,7 @@ use Rattle.std.proofs.lemmas.Nat.{le_bytes_8}
 use Rattle.hex.specs.Hex.{decode_of}
 use Rattle.diag_can.specs.FrameText.{IsLastEight}
 use Rattle.diag_can.proofs.Sixteen.{few_digits}
-use Rattle.diag_can.proofs.frame_text.word_of_few.Goals as goal
+use Rattle.diag_can.proofs.frame_text.eight_of_few.Goals as goal
 
 pub returns : goal.returns
 returns c =
