@@ -14,7 +14,7 @@ use Rattle.diag_can.specs.Lanes.{IsRunIn, IsWithin}
 use Rattle.diag_can.specs.Line.{line_says}
 use Rattle.diag_can.specs.Log.{is_feed, without_return}
 use Rattle.diag_can.specs.Stamp.{behind, is_mark, is_no_space}
-use Rattle.diag_can.specs.Usual.{BeginsFramed, HasDigits, IsFramed, IsUsual}
+use Rattle.diag_can.specs.Usual.{BeginsFramed, HasDigits, IsFd, IsFramed, IsUsual}
 use Rattle.diag_can.specs.declared.bus_line.BusLine.{BusLine}
 use Rattle.diag_can.specs.declared.frame.KnownId.{KnownId}
 use Rattle.diag_can.proofs.UsualLines.{bus_line-short}
@@ -231,3 +231,40 @@ module _ (text line after : List ℕ) (place width : ℕ) (f : BeginsFramed text
         let few = h.few in
         let before = f.before in
         first_line text line after place f within h.ends (omega arith) frame_plain known said says
+
+-- the same of a line of CAN FD, with up to 128 digits behind its flags
+module _ (text line after : List ℕ) (place : ℕ) (f : BeginsFramed text place) (inside : place + 6 ≤ length line)
+    (ends : (text ≡ line ++ 10 ∷ after) ⊎ (text ≡ line ++ 13 ∷ 10 ∷ after)) (few : length line ≤ place + 134)
+    (id : (k : ℕ) → place ≤ k → k < place + 3 → is_hex_digit (get_or line k 0) ≡ true) (mark : get_or line (place + 3) 0 ≡ 35)
+    (second : get_or line (place + 4) 0 ≡ 35) (digits : (k : ℕ) → place + 5 ≤ k → k < length line → is_hex_digit (get_or line k 0) ≡ true) where
+  beyond : place < length line
+  beyond = omega arith
+
+  pub is_fd : IsFd line place
+  is_fd = record {
+    framed = is_framed text line after place f beyond ends;
+    inside = inside;
+    few = few;
+    id = id;
+    mark = mark;
+    second = second;
+    digits = digits;
+  }
+
+  fd_plain : (k : ℕ) → place ≤ k → k < length line → (is_feed (get_or line k 0) ≡ false) × ((13 == get_or line k 0) ≡ false)
+  fd_plain k from lt = elim (cases_lt k (place + 3)) [
+    | inl digit ↦ plain_digit (get_or line k 0) (id k from digit)
+    | inr later ↦ elim (cases_lt k (place + 4)) [
+      | inl hash ↦ let here : k ≡ place + 3 = omega arith in rw (here, mark) (refl, refl)
+      | inr next ↦ elim (cases_lt k (place + 5)) [
+        | inl hash ↦ let here : k ≡ place + 4 = omega arith in rw (here, second) (refl, refl)
+        | inr further ↦ plain_digit (get_or line k 0) (digits k further lt)
+      ]
+    ]
+  ]
+
+  pub fd_line : (known : List KnownId) (said : BusLine) → line_says known line ≡ Ok said
+      → IsFirstLine known text (take (length text - length after - 1) text) after (Some said)
+  fd_line known said says =
+      let before = f.before in
+      first_line text line after place f beyond ends (omega arith) fd_plain known said says

@@ -1,12 +1,14 @@
 //! The events of a log.
 
-ghost use Rattle.std.specs.Prelude.{◌≡◌, ◌<◌, ◌≤◌, ◌⊎◌, [], ◌∷◌, ◌++◌, length, slice_get, Some, IfErr, OnOk};
+ghost use Rattle.std.specs.Prelude.{◌≡◌, ◌<◌, ◌≤◌, ◌⊎◌, ℕ, List, [], ◌∷◌, ◌++◌, length, slice_get, Some, Ok, IsOk, IfErr, OnOk};
+ghost use Rattle.hex.specs.Hex.{decode_of};
 ghost use Rattle.diag_can.specs.Event as event;
 ghost use Rattle.diag_can.specs.EventLog.{FitsIn, event_in};
 ghost use Rattle.diag_can.specs.Line.{addressed};
 ghost use Rattle.diag_can.specs.Log.{most_events};
 
 use crate::fault::LogFault;
+use crate::fd_bytes::FdBytes;
 use crate::frame::{FrameBytes, TickCount};
 use crate::frame_text::FrameText;
 use crate::lent_bytes::LentBytes;
@@ -151,9 +153,8 @@ impl Log {
         }
     }
 
-    /// Adds a frame of more than 8 bytes.
-    #[cold]
-    #[inline(never)]
+    /// Adds a frame of more than 8 bytes, by its digits.
+    #[inline(always)]
     fn push_long(&mut self, addressing: Addressing, frame: &FrameText) -> Result<(), LogFault>
         requires long { 8 < length frame.now.bytes }
         ensures ok { OnOk result (self.new.items ≡ self.old.items ++ addressed addressing frame.now.bytes ∷ []) }
@@ -163,13 +164,27 @@ impl Log {
             ⊎ ((fault ≡ LogFault.Memory) × (length self.old.items < most_events))) }
     {
         self.find_room()?;
-        match self.add_long(addressing, frame.long_bytes().as_slice()) {
+        match self.add_digits(addressing, frame.digits()) {
             Ok(()) => Ok(()),
             Err(_) => Err(LogFault::Memory),
         }
     }
 
-    /// The same, where there is room for the event.
+    /// The same of these digits, where there is room for the event.
+    #[cold]
+    #[inline(never)]
+    fn add_digits(&mut self, addressing: Addressing, digits: &[u8]) -> Result<(), AllocError>
+        requires room { length self.old.items < most_events }
+        requires hex { IsOk (decode_of digits.now) }
+        requires long { (bytes : List ℕ) → decode_of digits.now ≡ Ok bytes → 8 < length bytes }
+        requires few { length digits.now ≤ 128 }
+        ensures { OnOk result ((bytes : List ℕ) → decode_of digits.now ≡ Ok bytes
+            → self.new.items ≡ self.old.items ++ addressed addressing bytes ∷ []) }
+    {
+        self.add_long(addressing, FdBytes::of_digits(digits).as_slice())
+    }
+
+    /// The same of these bytes.
     fn add_long(&mut self, addressing: Addressing, bytes: &[u8]) -> Result<(), AllocError>
         requires room { length self.old.items < most_events }
         requires long { 8 < length bytes.now }
