@@ -14,7 +14,7 @@ use Rattle.diag_setup.specs.declared.raw.RawSetup.{RawSetup}
 use Rattle.diag_desk.specs.declared.entry.Entry.{Entry}
 use Rattle.diag_port.specs.Port.{port_of}
 use Rattle.diag_port.specs.Standing.{entry_of_ticks}
-use Rattle.diag_world.specs.Server.{Waited, each_of, quiet_of, server_of}
+use Rattle.diag_world.specs.Server.{ServerView, Waited, each_of, quiet_of, server_of}
 use Rattle.diag_bus.specs.Filled.{AreFilled}
 use Rattle.diag_bus.specs.Node.{AreSentBy, Gave, IsRest, Lasts, OneSentIn, OneWentOn, Passed, SameShape, lists_of}
 use Rattle.diag_bus.specs.declared.line_frames.LineFrames.{LineFrames}
@@ -62,6 +62,27 @@ module _ {S : Type 0} (took : S → RawSetup → List (List ℕ) → List Entry 
       → Passed took stays a x b y n L r → Passed took stays a x b y m M r
   passed_as {r} {a} {b} {x} {y} {n} {m} {L} {M} time events h =
       subst (λ k. Passed took stays a x b y k M r) time (subst (λ w. Passed took stays a x b y n w r) events h)
+
+  -- the same of another node to begin with, whose ports aren't known to be quiet for so long
+  pub passed_from : {r : Result (Unit {0}) AllocError} {b c : Node} {x y : S} {n : ℕ} {L : List (ℕ × Event)} (a : Node) → b.server ≡ a.server → b.drawn ≡ a.drawn
+      → IsRest b.server b.rest → Passed took stays b x c y n L r → Passed took stays a x c y n L r
+  passed_from {r} {b} {c} {x} {y} {n} {L} a server drawn known h =
+      subst (λ (s : ServerView). Passed took stays (record { server = s; drawn = a.drawn; rest = a.rest }) x c y n L r) server
+      (subst (λ (d : LineFrames). Passed took stays (record { server = b.server; drawn = d; rest = a.rest }) x c y n L r) drawn (record {
+        ok = on_ok_weaker r (λ gave setup base past M d. gave setup base past M (record {
+          journal = d.journal;
+          serves = d.serves;
+          lists = d.lists;
+          frames = d.frames;
+          entries = d.entries;
+          run = d.run;
+          entered = d.entered;
+        })) h.ok;
+        kept = h.kept;
+        shape = record { ports = h.shape.ports; lists = h.shape.lists; filled = h.shape.filled; rest = λ _. h.shape.rest known };
+        pace = h.pace;
+        sent = h.sent;
+      }))
 
   pub passed_then : IsKept stays → {r : Result (Unit {0}) AllocError} {a b c : Node} {x y z : S} {n m : ℕ} {L M : List (ℕ × Event)} (all : ℕ) → n + m ≤ all
       → Passed {A = Unit {0}} {E = AllocError} took stays a x b y n L (Ok tt) → Passed took stays b y c z m M r → Passed took stays a x c z all (L ++ M) r

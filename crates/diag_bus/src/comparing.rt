@@ -1,6 +1,7 @@
 //! What is kept of a recording and of the frames that the server sends, to compare the two.
 
-ghost use Rattle.std.specs.Prelude.{◌≡◌, ◌≢◌, ◌≤◌, ℕ, List, [], ◌∷◌, ◌++◌, ◌+◌, length, map, slice_get, option_copied, Some, IfSome, IsSomeAnd, OnOk, OnErr, IfOk};
+ghost use Rattle.std.specs.Prelude.{◌≡◌, ◌≢◌, ◌≤◌, ℕ, List, [], ◌∷◌, ◌++◌, ◌+◌, length, map, slice_get, option_copied, Ok, Some, IfSome, IsOk, IsSomeAnd, OnOk, OnErr, IfOk};
+ghost use Rattle.hex.specs.Hex.{decode_of};
 ghost use Rattle.diag_bus.specs.Comparing.{Compares, ComparesLines, Disagrees, EachExpects, EachRecords, Expects, IsLack, IsVerdict, Records, RecordsCounted, TakesLine, shown};
 ghost use Rattle.diag_bus.specs.Filled.{AreFilled};
 ghost use Rattle.diag_bus.specs.Node.{lists_of};
@@ -17,7 +18,7 @@ use crate::line_frames::LineFrames;
 use crate::response_ids::ResponseIds;
 use crate::sink::Sink;
 use crate::verdict::{Difference, LentDifference, Recorded, Verdict, earlier};
-use diag_can::{BusLine, FrameBytes, FrameText, KeptBytes, TickCount};
+use diag_can::{BusLine, FdBytes, FrameBytes, FrameText, KeptBytes, TickCount};
 use diag_ecu::Ecu;
 use diag_pdu::{Message, Request};
 use diag_setup::{Setup, TesterId};
@@ -95,11 +96,22 @@ impl Comparison {
         ensures { OnOk result (Records self.old self.new (shown line frame.now.bytes)) }
     {
         if frame.is_long() {
-            let bytes = frame.long_bytes();
-            return self.record(line, bytes.as_slice());
+            return self.record_long(line, frame.digits());
         }
         let bytes = frame.bytes();
         self.record(line, bytes.as_slice())
+    }
+
+    /// The same of a frame of more than 8 bytes, by its digits.
+    #[cold]
+    #[inline(never)]
+    fn record_long(&mut self, line: u64, digits: &[u8]) -> Result<(), AllocError>
+        requires hex { IsOk (decode_of digits.now) }
+        requires few { length digits.now ≤ 128 }
+        ensures { OnOk result ((bytes : List ℕ) → decode_of digits.now ≡ Ok bytes
+            → Records self.old self.new (shown line bytes)) }
+    {
+        self.record(line, FdBytes::of_digits(digits).as_slice())
     }
 
     /// The same of a frame of these bytes. One that the server has sent is looked at where it lies, and kept no longer.

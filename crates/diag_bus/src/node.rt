@@ -1,7 +1,8 @@
 //! The unit on the bus: it is given what a line says, its time to every tester, and its frame to those it is for.
 
-ghost use Rattle.std.specs.Prelude.{◌≡◌, ◌≢◌, ◌≤◌, ◌<◌, ◌-◌, ℕ, List, Option, [], ◌∷◌, ◌++◌, Ok, Some, length, false, slice_get, IfSome, IsSome, OnOk};
+ghost use Rattle.std.specs.Prelude.{◌≡◌, ◌≢◌, ◌≤◌, ◌<◌, ◌-◌, ℕ, List, Option, [], ◌∷◌, ◌++◌, Ok, Some, length, false, nat_lt, slice_get, IfSome, IsOk, IsSome, OnOk};
 ghost use Rattle.std.specs.List.{flat_map};
+ghost use Rattle.hex.specs.Hex.{decode_of};
 ghost use Rattle.diag_can.specs.Event.{Event as AnEvent};
 ghost use Rattle.diag_can.specs.Log.{waited};
 ghost use Rattle.diag_pdu.specs.Cut.{counted_from};
@@ -16,7 +17,7 @@ use crate::entering::Entering;
 use crate::line_frames::LineFrames;
 use crate::request_ids::{Owner, RequestIds};
 use crate::sink::Sink;
-use diag_can::{BusLine, CanId, FrameText, LentBytes, LentEvent, TickCount};
+use diag_can::{BusLine, CanId, FdBytes, FrameText, LentBytes, LentEvent, TickCount};
 use diag_setup::{Setup, TesterId};
 use diag_world::Server;
 use std::alloc::AllocError;
@@ -92,40 +93,32 @@ impl Node {
             (each_of (length setup.now.testers) (AnEvent.Ticks count)) result }
     {
         let ms = u64::from(count.get());
-        if sink.wants_ticks() || self.rest <= ms {
-            return self.give_to_ports(setup, count, sink);
+        if sink.wants_ticks() || !self.is_quiet(ms) {
+            return self.give_ticks(setup, count, sink);
         }
         self.server.pass_quietly(setup, count);
         self.rest -= ms;
         Ok(())
     }
 
-    /// The same, where the ports have to be looked at.
-    #[inline(never)]
-    fn give_to_ports<S: Sink>(
-        &mut self,
-        setup: &Setup,
-        count: TickCount,
-        sink: &mut S,
-    ) -> Result<(), AllocError>
-        requires { IsReady self.old (length setup.now.testers) count }
-        ensures { Passed S.took (StaysFor S.is_for S.aim) self.old sink.old self.new sink.new count
-            (each_of (length setup.now.testers) (AnEvent.Ticks count)) result }
+    /// Whether no port does anything before the last of so many ticks. For how long is looked at anew, where it isn't known to
+    /// be so long.
+    #[inline(always)]
+    fn is_quiet(&mut self, ms: u64) -> bool
+        requires { IsRest self.old.server self.old.rest }
+        ensures quiet { result ≡ nat_lt ms self.new.rest }
+        ensures rest { IsRest self.new.server self.new.rest }
+        ensures server { self.new.server ≡ self.old.server }
+        ensures drawn { self.new.drawn ≡ self.old.drawn }
     {
-        let ms = u64::from(count.get());
-        if sink.wants_ticks() {
-            return self.give_ticks(setup, count, sink);
+        if self.rest <= ms {
+            self.rest = self.server.quiet();
         }
-        let rest = self.server.quiet();
-        if rest <= ms {
-            return self.give_ticks(setup, count, sink);
-        }
-        self.server.pass_quietly(setup, count);
-        self.rest = rest - ms;
-        Ok(())
+        ms < self.rest
     }
 
     /// The same, where some port does something or the sink wants the ticks.
+    #[inline(never)]
     fn give_ticks<S: Sink>(
         &mut self,
         setup: &Setup,
@@ -198,7 +191,7 @@ impl Node {
             return Ok(());
         }
         if frame.is_long() {
-            return self.give_long(setup, ids, owner, frame, sink);
+            return self.give_long(setup, ids, owner, frame.id(), frame.digits(), sink);
         }
         let bytes = frame.bytes();
         self.give_bytes(
@@ -211,7 +204,7 @@ impl Node {
         )
     }
 
-    /// The same of a frame of more than 8 bytes.
+    /// The same of a frame of more than 8 bytes, by its identifier and its digits.
     #[cold]
     #[inline(never)]
     fn give_long<S: Sink>(
@@ -219,21 +212,31 @@ impl Node {
         setup: &Setup,
         ids: &RequestIds,
         owner: Owner,
-        frame: &FrameText,
+        id: CanId,
+        digits: &[u8],
         sink: &mut S,
     ) -> Result<(), AllocError>
-        requires long { 8 < length frame.now.bytes }
+        requires hex { IsOk (decode_of digits.now) }
+        requires long { (bytes : List ℕ) → decode_of digits.now ≡ Ok bytes → 8 < length bytes }
+        requires few { length digits.now ≤ 128 }
         requires in_setup { length self.old.server.ports ≡ length setup.now.testers }
         requires lists { length self.old.drawn.lists.items ≡ length setup.now.testers }
-        requires owner { IsOwner setup.now frame.now.id (length setup.now.testers) owner }
+        requires owner { IsOwner setup.now id (length setup.now.testers) owner }
         requires ids { AreRequestsOf setup.now ids.now }
         requires early { HasTime self.old.server 0 }
-        ensures { Passed S.took (StaysFor S.is_for S.aim) self.old sink.old self.new sink.new 0
-            (given setup.now frame.now.id (length setup.now.testers) owner frame.now.bytes) result }
+        ensures { (bytes : List ℕ) → decode_of digits.now ≡ Ok bytes
+            → Passed S.took (StaysFor S.is_for S.aim) self.old sink.old self.new sink.new 0
+            (given setup.now id (length setup.now.testers) owner bytes) result }
     {
-        let bytes = frame.long_bytes();
-        let lent = LentBytes::long(bytes.as_slice());
-        self.give_bytes(setup, ids, owner, frame.id(), &lent, sink)
+        let bytes = FdBytes::of_digits(digits);
+        self.give_bytes(
+            setup,
+            ids,
+            owner,
+            id,
+            &LentBytes::long(bytes.as_slice()),
+            sink,
+        )
     }
 
     /// Gives the server a frame of this identifier and these bytes, by whose it is.

@@ -14,7 +14,7 @@ use Rattle.diag_can.specs.Lanes.{IsRunIn, IsWithin}
 use Rattle.diag_can.specs.Line.{line_says}
 use Rattle.diag_can.specs.Log.{is_feed, without_return}
 use Rattle.diag_can.specs.Stamp.{behind, is_mark, is_no_space}
-use Rattle.diag_can.specs.Usual.{BeginsFramed, HasDigits, IsFramed, IsUsual}
+use Rattle.diag_can.specs.Usual.{BeginsFramed, HasDigits, IsFd, IsFramed, IsUsual}
 use Rattle.diag_can.specs.declared.bus_line.BusLine.{BusLine}
 use Rattle.diag_can.specs.declared.frame.KnownId.{KnownId}
 use Rattle.diag_can.proofs.UsualLines.{bus_line-short}
@@ -109,18 +109,18 @@ front_is text whole after is =
     rw size (ap (take (length whole)) is ∙ take_at whole (10 ∷ after) (length whole) refl)
 
 -- an identifier that was read in what stands behind a place
-module _ (line part rest : List ℕ) (place width : ℕ) (cut : part ≡ take (length line - place) (drop place line)) (run : prefix_len is_hex_digit part ≡ width)
+module _ (text part rest : List ℕ) (place width : ℕ) (cut : part ≡ take (length text - place) (drop place text)) (run : prefix_len is_hex_digit part ≡ width)
     (hash : behind 35 (drop width part) ≡ Some rest) where
-  at_part : (k : ℕ) → get_or part k 0 ≡ get_or line (place + k) 0
+  at_part : (k : ℕ) → get_or part k 0 ≡ get_or text (place + k) 0
   at_part k =
-      ap (λ (t : List ℕ). get_or t k 0) (cut ∙ take_all (length line - place) (drop place line) (omega (arith, length-drop place line))) ∙ get_or-drop place line k 0
+      ap (λ (t : List ℕ). get_or t k 0) (cut ∙ take_all (length text - place) (drop place text) (omega (arith, length-drop place text))) ∙ get_or-drop place text k 0
 
-  pub id_digits : (k : ℕ) → place ≤ k → k < place + width → is_hex_digit (get_or line k 0) ≡ true
+  pub id_digits : (k : ℕ) → place ≤ k → k < place + width → is_hex_digit (get_or text k 0) ≡ true
   id_digits k from to =
       let here : place + (k - place) ≡ k = omega arith in
       rw here at (ap is_hex_digit (sym (at_part (k - place))) ∙ prefix_len_passes is_hex_digit part (k - place) 0 (omega (arith, run)))
 
-  pub id_mark : get_or line (place + width) 0 ≡ 35
+  pub id_mark : get_or text (place + width) 0 ≡ 35
   id_mark =
       let here : width + 0 ≡ width = omega arith in
       sym (at_part width) ∙ (rw here at (sym (get_or-drop width part 0 0))) ∙ begins_with 35 (drop width part) rest hash
@@ -200,7 +200,13 @@ module _ (text line after : List ℕ) (place width : ℕ) (f : BeginsFramed text
   pub in_line : (k : ℕ) → k < length line → get_or line k 0 ≡ get_or text k 0
   in_line = line_at text line after place f within h.ends
 
-  module _ (id : (k : ℕ) → place ≤ k → k < place + width → is_hex_digit (get_or line k 0) ≡ true) (mark : get_or line (place + width) 0 ≡ 35) where
+  module _ (id : (k : ℕ) → place ≤ k → k < place + width → is_hex_digit (get_or text k 0) ≡ true) (mark : get_or text (place + width) 0 ≡ 35) where
+    line_digit : (k : ℕ) → place ≤ k → k < place + width → is_hex_digit (get_or line k 0) ≡ true
+    line_digit k from to = ap is_hex_digit (in_line k (let inside = h.inside in omega arith)) ∙ id k from to
+
+    line_mark : get_or line (place + width) 0 ≡ 35
+    line_mark = in_line (place + width) (let inside = h.inside in omega arith) ∙ mark
+
     pub is_usual : IsUsual line place width
     is_usual =
         let inside = h.inside in
@@ -210,17 +216,17 @@ module _ (text line after : List ℕ) (place width : ℕ) (f : BeginsFramed text
           inside = inside;
           few = omega arith;
           even = h.even;
-          id = id;
-          mark = mark;
+          id = line_digit;
+          mark = line_mark;
           digits = h.digits;
         }
 
     -- no line ends in its frame
     frame_plain : (k : ℕ) → place ≤ k → k < length line → (is_feed (get_or line k 0) ≡ false) × ((13 == get_or line k 0) ≡ false)
     frame_plain k inside lt = elim (cases_lt k (place + width)) [
-      | inl digit ↦ plain_digit (get_or line k 0) (id k inside digit)
+      | inl digit ↦ plain_digit (get_or line k 0) (line_digit k inside digit)
       | inr later ↦ elim (cases_lt k (place + width + 1)) [
-        | inl hash ↦ let here : k ≡ place + width = omega arith in rw (here, mark) (refl, refl)
+        | inl hash ↦ let here : k ≡ place + width = omega arith in rw (here, line_mark) (refl, refl)
         | inr further ↦ plain_digit (get_or line k 0) (h.digits k further lt)
       ]
     ]
@@ -231,3 +237,43 @@ module _ (text line after : List ℕ) (place width : ℕ) (f : BeginsFramed text
         let few = h.few in
         let before = f.before in
         first_line text line after place f within h.ends (omega arith) frame_plain known said says
+
+-- the same of a line of CAN FD, with up to 128 digits behind its flags
+module _ (text line after : List ℕ) (place : ℕ) (f : BeginsFramed text place) (inside : place + 6 ≤ length line)
+    (ends : (text ≡ line ++ 10 ∷ after) ⊎ (text ≡ line ++ 13 ∷ 10 ∷ after)) (few : length line ≤ place + 134)
+    (id : (k : ℕ) → place ≤ k → k < place + 3 → is_hex_digit (get_or text k 0) ≡ true) (mark : get_or text (place + 3) 0 ≡ 35)
+    (second : get_or text (place + 4) 0 ≡ 35) (digits : (k : ℕ) → place + 5 ≤ k → k < length line → is_hex_digit (get_or text k 0) ≡ true) where
+  beyond : place < length line
+  beyond = omega arith
+
+  same : (k : ℕ) → k < length line → get_or line k 0 ≡ get_or text k 0
+  same = line_at text line after place f beyond ends
+
+  pub is_fd : IsFd line place
+  is_fd = record {
+    framed = is_framed text line after place f beyond ends;
+    inside = inside;
+    few = few;
+    id = λ k from to. ap is_hex_digit (same k (omega arith)) ∙ id k from to;
+    mark = same (place + 3) (omega arith) ∙ mark;
+    second = same (place + 4) (omega arith) ∙ second;
+    digits = λ k from to. ap is_hex_digit (same k to) ∙ digits k from to;
+  }
+
+  fd_plain : (k : ℕ) → place ≤ k → k < length line → (is_feed (get_or line k 0) ≡ false) × ((13 == get_or line k 0) ≡ false)
+  fd_plain k from lt = rw (same k lt) (elim (cases_lt k (place + 3)) [
+    | inl digit ↦ plain_digit (get_or text k 0) (id k from digit)
+    | inr later ↦ elim (cases_lt k (place + 4)) [
+      | inl hash ↦ let here : k ≡ place + 3 = omega arith in rw (here, mark) (refl, refl)
+      | inr next ↦ elim (cases_lt k (place + 5)) [
+        | inl hash ↦ let here : k ≡ place + 4 = omega arith in rw (here, second) (refl, refl)
+        | inr further ↦ plain_digit (get_or text k 0) (digits k further lt)
+      ]
+    ]
+  ])
+
+  pub fd_line : (known : List KnownId) (said : BusLine) → line_says known line ≡ Ok said
+      → IsFirstLine known text (take (length text - length after - 1) text) after (Some said)
+  fd_line known said says =
+      let before = f.before in
+      first_line text line after place f beyond ends (omega arith) fd_plain known said says

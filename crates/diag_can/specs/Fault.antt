@@ -3,6 +3,8 @@ use Rattle.std.specs.Prelude.{ℕ, codes, List, ◌++◌}
 use Rattle.std.specs.Fmt.{decimal}
 use Rattle.diag_can.specs.declared.fault.LineFault.{LineFault}
 use Rattle.diag_can.specs.declared.fault.LineFault.TheVariants.{BadLine, BadTick, TooManyBytes}
+use Rattle.diag_can.specs.declared.fault.Limit.{Limit}
+use Rattle.diag_can.specs.declared.fault.Limit.TheVariants as limit
 use Rattle.diag_can.specs.declared.fault.LogFault.{LogFault}
 use Rattle.diag_can.specs.declared.fault.LogFault.TheVariants.{Line, TooManyLines, Memory, TooManyEvents}
 
@@ -17,3 +19,9 @@ log_fault_text (Line n fault) = codes "line " ++ decimal n ++ codes ": " ++ line
 log_fault_text TooManyLines = codes "too many lines"
 log_fault_text Memory = codes "memory"
 log_fault_text TooManyEvents = codes "too many events"
+
+-- why a log takes no more is a fault of it
+abbrev pub fault_of : Limit → LogFault
+fault_of limit.Lines = TooManyLines
+fault_of limit.Events = TooManyEvents
+fault_of limit.Memory = Memory

@@ -39,6 +39,13 @@ pub record HasDigits (text line after : List ℕ) (at : ℕ) : Type 0 where
   pub digits : (k : ℕ) → at ≤ k → k < length line → is_hex_digit (slice_index line k) ≡ true
   pub ends : (text ≡ line ++ 10 ∷ after) ⊎ (text ≡ line ++ 13 ∷ 10 ∷ after)
 
+-- behind an identifier of three digits at this place, a text has a second mark, and so many hex digits behind one of flags
+pub record HasFdDigits (text : List ℕ) (place count : ℕ) : Type 0 where
+  pub inside : place + 6 + count ≤ length text
+  pub few : count ≤ 128
+  pub second : slice_index text (place + 4) ≡ 35
+  pub digits : (k : ℕ) → place + 5 ≤ k → k < place + 6 + count → is_hex_digit (slice_index text k) ≡ true
+
 -- such a line: at this place its frame's text begins, with so many digits of its identifier and a `#`, and ends in up to sixteen
 -- hex digits, which are pairs
 pub record IsUsual (line : List ℕ) (place width : ℕ) : Type 0 where
@@ -53,3 +60,14 @@ pub record IsUsual (line : List ℕ) (place width : ℕ) : Type 0 where
 -- its frame, with this identifier
 abbrev pub usual_frame : List ℕ → ℕ → ℕ → ℕ → Frame
 usual_frame line place width id = record { id = id; bytes = last_bytes line ((length line - (place + width + 1)) / 2) }
+
+-- a line of CAN FD with such a stamp and name: at this place its frame's text begins, with three digits of its identifier and two
+-- marks, and ends in hex digits: one of flags, and up to 128 more
+pub record IsFd (line : List ℕ) (place : ℕ) : Type 0 where
+  pub framed : IsFramed line place
+  pub inside : place + 6 ≤ length line
+  pub few : length line ≤ place + 134
+  pub id : (k : ℕ) → place ≤ k → k < place + 3 → is_hex_digit (slice_index line k) ≡ true
+  pub mark : slice_index line (place + 3) ≡ 35
+  pub second : slice_index line (place + 4) ≡ 35
+  pub digits : (k : ℕ) → place + 5 ≤ k → k < length line → is_hex_digit (slice_index line k) ≡ true

@@ -1,12 +1,14 @@
 //! The events of a log.
 
-ghost use Rattle.std.specs.Prelude.{◌≡◌, ◌<◌, ◌≤◌, ◌⊎◌, [], ◌∷◌, ◌++◌, length, slice_get, Some, IfErr, OnOk};
+ghost use Rattle.std.specs.Prelude.{◌≡◌, ◌<◌, ◌≤◌, ◌⊎◌, ℕ, List, [], ◌∷◌, ◌++◌, length, slice_get, Some, Ok, IsOk, IfErr, OnOk};
+ghost use Rattle.hex.specs.Hex.{decode_of};
 ghost use Rattle.diag_can.specs.Event as event;
 ghost use Rattle.diag_can.specs.EventLog.{FitsIn, event_in};
 ghost use Rattle.diag_can.specs.Line.{addressed};
 ghost use Rattle.diag_can.specs.Log.{most_events};
 
-use crate::fault::LogFault;
+use crate::fault::Limit;
+use crate::fd_bytes::FdBytes;
 use crate::frame::{FrameBytes, TickCount};
 use crate::frame_text::FrameText;
 use crate::lent_bytes::LentBytes;
@@ -90,41 +92,41 @@ impl Log {
 
     /// Whether one event more has room: there are 1,000,000 at most.
     #[inline(always)]
-    fn find_room(&self) -> Result<(), LogFault>
+    fn find_room(&self) -> Result<(), Limit>
         ensures room { OnOk result (length self.now.items < most_events) }
-        ensures err { IfErr result (λ fault.
-            (fault ≡ LogFault.TooManyEvents) × (most_events ≤ length self.now.items)) }
+        ensures err { IfErr result (λ limit.
+            (limit ≡ Limit.Events) × (most_events ≤ length self.now.items)) }
     {
         if self.events.len() >= MAX_EVENTS {
-            return Err(LogFault::TooManyEvents);
+            return Err(Limit::Events);
         }
         Ok(())
     }
 
     /// Adds an event that isn't a long frame.
     #[inline(always)]
-    fn push(&mut self, kept: KeptEvent) -> Result<(), LogFault>
+    fn push(&mut self, kept: KeptEvent) -> Result<(), Limit>
         requires short { FitsIn [] kept }
         ensures ok { OnOk result (self.new.items ≡ self.old.items ++ event_in [] kept ∷ []) }
         ensures room { OnOk result (length self.old.items < most_events) }
-        ensures err { IfErr result (λ fault.
-            ((fault ≡ LogFault.TooManyEvents) × (most_events ≤ length self.old.items))
-            ⊎ ((fault ≡ LogFault.Memory) × (length self.old.items < most_events))) }
+        ensures err { IfErr result (λ limit.
+            ((limit ≡ Limit.Events) × (most_events ≤ length self.old.items))
+            ⊎ ((limit ≡ Limit.Memory) × (length self.old.items < most_events))) }
     {
         self.find_room()?;
         match self.events.push(kept) {
             Ok(()) => Ok(()),
-            Err(_) => Err(LogFault::Memory),
+            Err(_) => Err(Limit::Memory),
         }
     }
 
     /// Adds that many ticks. That there are 1,000,000 events is looked at first.
-    pub(crate) fn push_ticks(&mut self, count: TickCount) -> Result<(), LogFault>
+    pub(crate) fn push_ticks(&mut self, count: TickCount) -> Result<(), Limit>
         ensures ok { OnOk result (self.new.items ≡ self.old.items ++ event.Ticks count ∷ []) }
         ensures room { OnOk result (length self.old.items < most_events) }
-        ensures err { IfErr result (λ fault.
-            ((fault ≡ LogFault.TooManyEvents) × (most_events ≤ length self.old.items))
-            ⊎ ((fault ≡ LogFault.Memory) × (length self.old.items < most_events))) }
+        ensures err { IfErr result (λ limit.
+            ((limit ≡ Limit.Events) × (most_events ≤ length self.old.items))
+            ⊎ ((limit ≡ Limit.Memory) × (length self.old.items < most_events))) }
     {
         self.push(KeptEvent::Ticks(count))
     }
@@ -135,12 +137,12 @@ impl Log {
         &mut self,
         addressing: Addressing,
         frame: &FrameText,
-    ) -> Result<(), LogFault>
+    ) -> Result<(), Limit>
         ensures ok { OnOk result (self.new.items ≡ self.old.items ++ addressed addressing frame.now.bytes ∷ []) }
         ensures room { OnOk result (length self.old.items < most_events) }
-        ensures err { IfErr result (λ fault.
-            ((fault ≡ LogFault.TooManyEvents) × (most_events ≤ length self.old.items))
-            ⊎ ((fault ≡ LogFault.Memory) × (length self.old.items < most_events))) }
+        ensures err { IfErr result (λ limit.
+            ((limit ≡ Limit.Events) × (most_events ≤ length self.old.items))
+            ⊎ ((limit ≡ Limit.Memory) × (length self.old.items < most_events))) }
     {
         if frame.is_long() {
             return self.push_long(addressing, frame);
@@ -151,25 +153,38 @@ impl Log {
         }
     }
 
-    /// Adds a frame of more than 8 bytes.
-    #[cold]
-    #[inline(never)]
-    fn push_long(&mut self, addressing: Addressing, frame: &FrameText) -> Result<(), LogFault>
+    /// Adds a frame of more than 8 bytes, by its digits.
+    #[inline(always)]
+    fn push_long(&mut self, addressing: Addressing, frame: &FrameText) -> Result<(), Limit>
         requires long { 8 < length frame.now.bytes }
         ensures ok { OnOk result (self.new.items ≡ self.old.items ++ addressed addressing frame.now.bytes ∷ []) }
         ensures room { OnOk result (length self.old.items < most_events) }
-        ensures err { IfErr result (λ fault.
-            ((fault ≡ LogFault.TooManyEvents) × (most_events ≤ length self.old.items))
-            ⊎ ((fault ≡ LogFault.Memory) × (length self.old.items < most_events))) }
+        ensures err { IfErr result (λ limit.
+            ((limit ≡ Limit.Events) × (most_events ≤ length self.old.items))
+            ⊎ ((limit ≡ Limit.Memory) × (length self.old.items < most_events))) }
     {
         self.find_room()?;
-        match self.add_long(addressing, frame.long_bytes().as_slice()) {
+        match self.add_digits(addressing, frame.digits()) {
             Ok(()) => Ok(()),
-            Err(_) => Err(LogFault::Memory),
+            Err(_) => Err(Limit::Memory),
         }
     }
 
-    /// The same, where there is room for the event.
+    /// The same of these digits, where there is room for the event.
+    #[cold]
+    #[inline(never)]
+    fn add_digits(&mut self, addressing: Addressing, digits: &[u8]) -> Result<(), AllocError>
+        requires room { length self.old.items < most_events }
+        requires hex { IsOk (decode_of digits.now) }
+        requires long { (bytes : List ℕ) → decode_of digits.now ≡ Ok bytes → 8 < length bytes }
+        requires few { length digits.now ≤ 128 }
+        ensures { OnOk result ((bytes : List ℕ) → decode_of digits.now ≡ Ok bytes
+            → self.new.items ≡ self.old.items ++ addressed addressing bytes ∷ []) }
+    {
+        self.add_long(addressing, FdBytes::of_digits(digits).as_slice())
+    }
+
+    /// The same of these bytes.
     fn add_long(&mut self, addressing: Addressing, bytes: &[u8]) -> Result<(), AllocError>
         requires room { length self.old.items < most_events }
         requires long { 8 < length bytes.now }

@@ -1,7 +1,7 @@
 //! What is wrong with a line, and with a log.
 
-ghost use Rattle.std.specs.Prelude.{Some};
-ghost use Rattle.diag_can.specs.Fault.{line_fault_text, log_fault_text};
+ghost use Rattle.std.specs.Prelude.{◌≡◌, Some};
+ghost use Rattle.diag_can.specs.Fault.{fault_of, line_fault_text, log_fault_text};
 
 use std::error::Error;
 use std::fmt;
@@ -42,6 +42,32 @@ pub enum LogFault {
     Memory,
     /// More than 1,000,000 events.
     TooManyEvents,
+}
+
+/// Why a log takes no line or no event more. (It has no fields, so it stays in a register as the lines go by.)
+#[derive(Clone, Copy, Drop)]
+pub(crate) enum Limit {
+    /// There are 1,000,000 lines.
+    Lines,
+    /// There are 1,000,000 events.
+    Events,
+    /// Memory is refused.
+    Memory,
+}
+
+impl Limit {
+    /// The log's fault.
+    #[cold]
+    #[inline(never)]
+    pub(crate) fn fault(self) -> LogFault
+        ensures { result ≡ fault_of self }
+    {
+        match self {
+            Limit::Lines => LogFault::TooManyLines,
+            Limit::Events => LogFault::TooManyEvents,
+            Limit::Memory => LogFault::Memory,
+        }
+    }
 }
 
 impl fmt::Display for LogFault {

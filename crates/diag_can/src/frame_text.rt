@@ -81,7 +81,16 @@ impl<'a> FrameText<'a> {
     pub fn long_bytes(&self) -> FdBytes
         ensures { result ≡ self.now.bytes }
     {
-        bytes_of(&self.text[self.text.len() - 2 * self.count..])
+        FdBytes::of_digits(self.digits())
+    }
+
+    /// The digits of its data, which a call may be lent in place of the frame: what a call borrows lies in memory.
+    #[inline(always)]
+    pub fn digits(&self) -> &'a [u8]
+        ensures is { decode_of result.now ≡ Ok self.now.bytes }
+        ensures few { length result.now ≤ 128 }
+    {
+        &self.text[self.text.len() - 2 * self.count..]
     }
 }
 
@@ -98,6 +107,7 @@ fn last_eight(text: &[u8]) -> u64
 }
 
 /// The same of a text with fewer bytes, in front of which zeros are put.
+#[cold]
 #[inline(never)]
 fn eight_of_few(text: &[u8]) -> u64
     requires { length text.now < 16 }
@@ -108,25 +118,27 @@ fn eight_of_few(text: &[u8]) -> u64
     u64::from_le_bytes(eight_of_digits(&digits))
 }
 
-/// The bytes that hex digits write, up to 64: those of sixteen digits are looked at together, and so are those of the digits
-/// that are left.
-#[cold]
-#[inline(never)]
-fn bytes_of(digits: &[u8]) -> FdBytes
-    requires hex { IsOk (decode_of digits.now) }
-    requires few { length digits.now ≤ 128 }
-    ensures { decode_of digits.now ≡ Ok result }
-{
-    let mut bytes = FdBytes::new();
-    let mut rest = digits;
-    while let Some((sixteen, tail)) = rest.split_first_chunk::<16>() {
-        bytes.append(&eight_of_digits(sixteen));
-        rest = tail;
+impl FdBytes {
+    /// The bytes that hex digits write, up to 64: those of sixteen digits are looked at together, and so are those of the digits
+    /// that are left.
+    #[cold]
+    #[inline(never)]
+    pub fn of_digits(digits: &[u8]) -> FdBytes
+        requires hex { IsOk (decode_of digits.now) }
+        requires few { length digits.now ≤ 128 }
+        ensures { decode_of digits.now ≡ Ok result }
+    {
+        let mut bytes = FdBytes::new();
+        let mut rest = digits;
+        while let Some((sixteen, tail)) = rest.split_first_chunk::<16>() {
+            bytes.append(&eight_of_digits(sixteen));
+            rest = tail;
+        }
+        if rest.is_empty() {
+            return bytes;
+        }
+        let last = FrameBytes::last_of(last_eight(rest), rest.len() / 2);
+        bytes.append(last.as_slice());
+        bytes
     }
-    if rest.is_empty() {
-        return bytes;
-    }
-    let last = FrameBytes::last_of(last_eight(rest), rest.len() / 2);
-    bytes.append(last.as_slice());
-    bytes
 }

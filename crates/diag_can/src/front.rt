@@ -5,16 +5,16 @@ ghost use Rattle.memchr.specs.Find.{IsFirstByte};
 ghost use Rattle.diag_can.specs.BusLine.{HasNoFeed, IsFirstLine};
 ghost use Rattle.diag_can.specs.Line.{tick_count};
 ghost use Rattle.diag_can.specs.Log.{is_feed};
-ghost use Rattle.diag_can.specs.Usual.{BeginsFramed, HasDigits};
+ghost use Rattle.diag_can.specs.Usual.{BeginsFramed, HasDigits, HasFdDigits};
 ghost use Rattle.diag_can.specs.declared.frame.KnownId.{KnownId as AKnownId};
 
 use crate::bus_line::BusLine;
 use crate::frame::{KnownId, TickCount};
 use crate::lanes::{hex_of_sixteen, line_run};
-use crate::line::short_id;
+use crate::line::{hex_run, is_hex_digit, short_id};
 use crate::read::ticks_of;
 use crate::stamp::{behind, number_run};
-use crate::usual::{said_from, text_place, wide_said};
+use crate::usual::{fd_said, said_from, text_place, wide_said};
 use memchr::memchr;
 
 /// The longest line of the usual form with its end.
@@ -94,6 +94,40 @@ fn wide_front<'a>(known: &[KnownId], text: &'a [u8], place: usize) -> Option<Fir
     Some(told(text, after, wide_said(known, line, place)))
 }
 
+/// How many hex digits stand behind the flags of a frame of CAN FD with an identifier of three digits, at this place; None where
+/// there is no such frame. (They are answered by themselves, so that the usual line's parts stay out of memory.)
+#[cold]
+#[inline(never)]
+fn fd_digits(text: &[u8], place: usize) -> Option<usize>
+    requires { place + 6 ≤ length text.now }
+    ensures { IfSome result (λ count. HasFdDigits text.now place count) }
+{
+    if text[place + 4] != b'#' || !is_hex_digit(text[place + 5]) {
+        return None;
+    }
+    let count = hex_run(&text[place + 6..]);
+    if count > 128 {
+        return None;
+    }
+    Some(count)
+}
+
+/// The first line of a text where it is of CAN FD, with an identifier of three digits at this place. Its end is looked for behind
+/// its hex digits, which are counted once.
+#[inline(always)]
+fn fd_front<'a>(known: &[KnownId], text: &'a [u8], place: usize) -> Option<FirstLine<'a>>
+    requires begins { BeginsFramed text.now place }
+    requires long { 53 ≤ length text.now }
+    ensures { IfSome result (λ first. IsFirstLine known.now text.now first.line.now first.after.now first.said) }
+{
+    let count = fd_digits(text, place)?;
+    let (line, rest) = text.split_at(place + 6 + count);
+    let after = behind_end(rest)?;
+    let id = short_id(&text[place..])?;
+    let said = fd_said(known, line, place, id)?;
+    Some(told(text, after, said))
+}
+
 /// The first line of a text where it is of the usual form. Most identifiers have three digits.
 #[inline(always)]
 fn usual_front<'a>(known: &[KnownId], text: &'a [u8]) -> Option<FirstLine<'a>>
@@ -106,8 +140,10 @@ fn usual_front<'a>(known: &[KnownId], text: &'a [u8]) -> Option<FirstLine<'a>>
     if text[place + 3] != b'#' {
         return wide_front(known, text, place);
     }
-    let (line, after) = framed_front(text, place, 3)?;
-    let id = short_id(&line[place..])?;
+    let Some((line, after)) = framed_front(text, place, 3) else {
+        return fd_front(known, text, place);
+    };
+    let id = short_id(&text[place..])?;
     Some(told(text, after, said_from(line, place, id)))
 }
 

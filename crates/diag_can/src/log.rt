@@ -7,7 +7,7 @@ ghost use Rattle.diag_can.specs.Reading.{fault_with, given_at};
 
 use crate::bus_line::BusLine;
 use crate::event_log::Log;
-use crate::fault::LogFault;
+use crate::fault::{Limit, LogFault};
 use crate::frame::{Ids, TickCount};
 use crate::moment_text::MomentText;
 use crate::read::{frame_for, line_says};
@@ -41,13 +41,13 @@ pub fn without_return(line: &[u8]) -> &[u8]
 }
 
 /// Adds that many milliseconds of time.
-fn push_time(events: &mut Log, ms: u64) -> Result<(), LogFault>
+fn push_time(events: &mut Log, ms: u64) -> Result<(), Limit>
     requires { length events.old.items ≤ most_events }
     ensures ok { OnOk result (events.new.items ≡ events.old.items ++ waited ms) }
     ensures few { OnOk result (length events.new.items ≤ most_events) }
-    ensures err { IfErr result (λ fault.
-        ((fault ≡ LogFault.TooManyEvents) × (most_events < length (events.old.items ++ waited ms)))
-        ⊎ ((fault ≡ LogFault.Memory) × (length events.old.items < most_events))) }
+    ensures err { IfErr result (λ limit.
+        ((limit ≡ Limit.Events) × (most_events < length (events.old.items ++ waited ms)))
+        ⊎ ((limit ≡ Limit.Memory) × (length events.old.items < most_events))) }
     ensures some { OnErr result (ms ≢ 0) }
 {
     if ms == 0 {
@@ -65,31 +65,15 @@ fn push_time(events: &mut Log, ms: u64) -> Result<(), LogFault>
 impl Reading {
     ghost use Rattle.diag_can.specs.Took.{Grown, Took};
 
-    /// Lets the time pass up to a moment, where stamps carry time. (Elsewhere nobody wants it.)
-    #[inline(always)]
-    fn pass_on(&mut self, timing: Timing, moment: &MomentText) -> Result<(), LogFault>
-        requires { length self.old.events.items ≤ most_events }
-        ensures ok { OnOk result (Grown timing self.old self.new (Some moment.now) []) }
-        ensures err { IfErr result (λ fault.
-            ((fault ≡ LogFault.TooManyEvents) × (most_events < length (self.old.events.items
-            ++ given_at timing self.old.reference (Some moment.now) [])))
-            ⊎ ((fault ≡ LogFault.Memory) × (length self.old.events.items < most_events))) }
-    {
-        match timing {
-            Timing::Lines => Ok(()),
-            Timing::Stamps => self.pass_to(moment.ms()),
-        }
-    }
-
     /// Lets the time pass from the reference to a later moment, which is the reference then.
     #[inline(never)]
-    fn pass_to(&mut self, moment: u64) -> Result<(), LogFault>
+    fn pass_to(&mut self, moment: u64) -> Result<(), Limit>
         requires { length self.old.events.items ≤ most_events }
         ensures ok { OnOk result (Grown Timing.Stamps self.old self.new (Some moment) []) }
-        ensures err { IfErr result (λ fault.
-            ((fault ≡ LogFault.TooManyEvents) × (most_events < length (self.old.events.items
+        ensures err { IfErr result (λ limit.
+            ((limit ≡ Limit.Events) × (most_events < length (self.old.events.items
             ++ given_at Timing.Stamps self.old.reference (Some moment) [])))
-            ⊎ ((fault ≡ LogFault.Memory) × (length self.old.events.items < most_events))) }
+            ⊎ ((limit ≡ Limit.Memory) × (length self.old.events.items < most_events))) }
     {
         let reference = self.reference.unwrap_or(moment);
         push_time(&mut self.events, moment.saturating_sub(reference))?;
@@ -99,14 +83,14 @@ impl Reading {
 
     /// Takes what a line says.
     #[inline(always)]
-    pub(crate) fn take(&mut self, timing: Timing, ids: &Ids, said: &BusLine) -> Result<(), LogFault>
+    pub(crate) fn take(&mut self, timing: Timing, ids: &Ids, said: &BusLine) -> Result<(), Limit>
         requires { length self.old.events.items ≤ most_events }
         ensures took { OnOk result (Grown timing self.old self.new (moment_for ids.now (Ok said.now))
             (event_list (Ok (event_for ids.now said.now)))) }
-        ensures err { IfErr result (λ fault.
-            ((fault ≡ LogFault.TooManyEvents) × (most_events < length (self.old.events.items
+        ensures err { IfErr result (λ limit.
+            ((limit ≡ Limit.Events) × (most_events < length (self.old.events.items
             ++ given_at timing self.old.reference (moment_for ids.now (Ok said.now)) (event_list (Ok (event_for ids.now said.now))))))
-            ⊎ ((fault ≡ LogFault.Memory)
+            ⊎ ((limit ≡ Limit.Memory)
             × (length self.old.events.items < most_events)
             × (given_at timing self.old.reference (moment_for ids.now (Ok said.now)) (event_list (Ok (event_for ids.now said.now))) ≢ []))) }
     {
@@ -115,10 +99,13 @@ impl Reading {
             BusLine::Ticks(count) => self.events.push_ticks(*count),
             BusLine::Stamped { moment, frame } => match frame_for(frame, ids) {
                 None => Ok(()),
-                Some((addressing, frame)) => {
-                    self.pass_on(timing, moment)?;
-                    self.events.push_frame(addressing, frame)
-                }
+                Some((addressing, frame)) => match timing {
+                    Timing::Lines => self.events.push_frame(addressing, frame),
+                    Timing::Stamps => {
+                        self.pass_to(moment.ms())?;
+                        self.events.push_frame(addressing, frame)
+                    }
+                },
             },
         }
     }
@@ -142,7 +129,10 @@ impl Reading {
             × (line_gives timing self.old.reference ids.now line.now ≢ []) }
     {
         match line_says(&ids.known(), line) {
-            Ok(said) => self.take(timing, ids, &said),
+            Ok(said) => match self.take(timing, ids, &said) {
+                Ok(()) => Ok(()),
+                Err(limit) => Err(limit.fault()),
+            },
             Err(fault) => Err(LogFault::Line(number, fault)),
         }
     }

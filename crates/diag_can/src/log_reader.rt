@@ -1,17 +1,18 @@
 //! The log of a tester's link, whole or as its lines come.
 
-ghost use Rattle.std.specs.Prelude.{◌≡◌, ◌≢◌, ◌<◌, ◌≤◌, ◌+◌, ℕ, List, [], ◌∷◌, ◌++◌, length, Some, Ok, Err, IfOk, IfSome, IfErr, OnOk, OnErr};
-ghost use Rattle.diag_can.specs.BusLine.{HasNoFeed, bus_line};
+ghost use Rattle.std.specs.Prelude.{◌≡◌, ◌≢◌, ◌<◌, ◌≤◌, ◌+◌, ℕ, List, [], ◌∷◌, ◌++◌, length, Some, None, Ok, Err, IfOk, IfSome, IfErr, OnOk, OnErr};
+ghost use Rattle.diag_can.specs.BusLine.{HasNoFeed};
+ghost use Rattle.diag_can.specs.Fault.{fault_of};
 ghost use Rattle.diag_can.specs.Growing.{GivesMore, HasEvent};
 ghost use Rattle.diag_can.specs.HasRead.{AreRead, HasLines, HasRead};
-ghost use Rattle.diag_can.specs.Line.{known_to};
+ghost use Rattle.diag_can.specs.Line.{known_to, line_says};
 ghost use Rattle.diag_can.specs.Log.{events, fault_after, most_events, most_lines, without_return};
 ghost use Rattle.diag_can.specs.Pieces.{TakesLines};
 ghost use Rattle.diag_can.specs.declared.log.Timing.{Timing};
 
 use crate::bus_line::BusLine;
 use crate::event_log::{Log, MAX_EVENTS};
-use crate::fault::LogFault;
+use crate::fault::{Limit, LogFault};
 use crate::frame::Ids;
 use crate::front::first_line;
 use crate::log::{Reading, Timing, without_return};
@@ -111,24 +112,48 @@ impl LogReader {
         let known = ids.known();
         let mut rest = text;
         while let Some(first) = first_line(&known, rest) {
-            self.take_line(ids, timing, first.line, first.said)?;
+            match &first.said {
+                Some(said) => {
+                    if let Err(limit) = self.take_said(ids, timing, said) {
+                        return Err(limit.fault());
+                    }
+                }
+                None => self.take_line(ids, timing, first.line)?,
+            }
             rest = first.after;
         }
         Ok(rest)
     }
 
-    /// Takes the line that comes next, with what it says where that is known. (What it says decides at once, so that the
-    /// lines of each front go on by themselves.)
+    /// Takes the line that comes next, by what it says. (That decides at once, so that the lines of each front go on by
+    /// themselves.)
     #[inline(always)]
-    fn take_line(
-        &mut self,
-        ids: &Ids,
-        timing: Timing,
-        line: &[u8],
-        said: Option<BusLine>,
-    ) -> Result<(), LogFault>
-        requires read { (past : List (List ℕ)) × AreRead ids.now timing self.old past }
-        requires says { IfSome said (λ said. bus_line (known_to ids.now) line.now ≡ Ok said) }
+    fn take_said(&mut self, ids: &Ids, timing: Timing, said: &BusLine) -> Result<(), Limit>
+        requires { (past : List (List ℕ)) × AreRead ids.now timing self.old past }
+        ensures took { OnOk result ((past : List (List ℕ)) (line : List ℕ)
+            → line_says (known_to ids.now) line ≡ Ok said.now
+            → AreRead ids.now timing self.old past
+            → AreRead ids.now timing self.new (past ++ line ∷ [])) }
+        ensures fault { IfErr result (λ limit. limit ≢ Limit.Memory → (past : List (List ℕ)) (line : List ℕ)
+            → line_says (known_to ids.now) line ≡ Ok said.now
+            → AreRead ids.now timing self.old past
+            → fault_after timing ids.now past line ≡ Some (fault_of limit)) }
+        ensures memory { result ≡ Err Limit.Memory → (past : List (List ℕ)) (line : List ℕ)
+            → line_says (known_to ids.now) line ≡ Ok said.now
+            → AreRead ids.now timing self.old past
+            → GivesMore timing ids.now past line }
+        ensures still { self.new.fault ≡ self.old.fault }
+    {
+        let Some(number) = self.next_number() else {
+            return Err(Limit::Lines);
+        };
+        self.lines = number;
+        self.reading.take(timing, ids, said)
+    }
+
+    /// Takes the line that comes next, whatever its form is.
+    fn take_line(&mut self, ids: &Ids, timing: Timing, line: &[u8]) -> Result<(), LogFault>
+        requires { (past : List (List ℕ)) × AreRead ids.now timing self.old past }
         ensures took { OnOk result ((past : List (List ℕ))
             → AreRead ids.now timing self.old past
             → AreRead ids.now timing self.new (past ++ without_return line.now ∷ [])) }
@@ -140,32 +165,25 @@ impl LogReader {
             → GivesMore timing ids.now past (without_return line.now) }
         ensures still { self.new.fault ≡ self.old.fault }
     {
-        match said {
-            Some(said) => {
-                self.lines = self.next_number()?;
-                self.reading.take(timing, ids, &said)
-            }
-            None => {
-                let number = self.next_number()?;
-                self.lines = number;
-                self.reading
-                    .take_line(timing, ids, number, without_return(line))
-            }
-        }
+        let Some(number) = self.next_number() else {
+            return Err(LogFault::TooManyLines);
+        };
+        self.lines = number;
+        self.reading
+            .take_line(timing, ids, number, without_return(line))
     }
 
-    /// The number of the line that comes next, from 1.
+    /// The number of the line that comes next, from 1; none behind the last that a log may have.
     #[inline(always)]
-    fn next_number(&self) -> Result<u32, LogFault>
-        ensures number { IfOk result (λ number. number ≡ self.now.lines + 1) }
-        ensures room { OnOk result (self.now.lines < most_lines) }
-        ensures err { IfErr result (λ fault.
-            (fault ≡ LogFault.TooManyLines) × (most_lines ≤ self.now.lines)) }
+    fn next_number(&self) -> Option<u32>
+        ensures number { IfSome result (λ number. number ≡ self.now.lines + 1) }
+        ensures room { IfSome result (λ number. self.now.lines < most_lines) }
+        ensures none { result ≡ None → most_lines ≤ self.now.lines }
     {
         if self.lines >= MAX_LINES {
-            return Err(LogFault::TooManyLines);
+            return None;
         }
-        Ok(self.lines + 1)
+        Some(self.lines + 1)
     }
 
     /// The log's events, where these bytes of a line, or none, end it.
@@ -191,7 +209,7 @@ impl LogReader {
         if begun.is_empty() {
             return Ok(self.reading.events);
         }
-        self.take_line(ids, timing, begun, None)?;
+        self.take_line(ids, timing, begun)?;
         Ok(self.reading.events)
     }
 }

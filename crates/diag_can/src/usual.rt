@@ -1,12 +1,12 @@
 //! A line of the usual form, of which many bytes are read at once: a stamp of ten digits and six, one space, a short name, one
 //! space, an identifier of three digits or of eight, and behind its `#` nothing but pairs of hex digits. Other lines are read
-//! part by part.
+//! part by part, but for those of CAN FD with such a stamp and an identifier of three digits.
 
 ghost use Rattle.std.specs.Prelude.{◌≡◌, ◌<◌, ◌≤◌, ◌+◌, List, length, take, drop, IfSome, Some, Ok};
 ghost use Rattle.diag_can.specs.Lanes.{IsRunIn};
-ghost use Rattle.diag_can.specs.Line.{id_of, line_says, wide_frame, wide_id_of};
+ghost use Rattle.diag_can.specs.Line.{fd_frame, id_of, line_says, wide_frame, wide_id_of};
 ghost use Rattle.diag_can.specs.Stamp.{is_digit};
-ghost use Rattle.diag_can.specs.Usual.{BeginsFramed, IsUsual, three_at, usual_frame};
+ghost use Rattle.diag_can.specs.Usual.{BeginsFramed, IsFd, IsUsual, three_at, usual_frame};
 ghost use Rattle.diag_can.specs.MomentText.{usual_moment};
 ghost use Rattle.diag_can.specs.declared.frame.KnownId.{KnownId as AKnownId};
 
@@ -14,7 +14,7 @@ use crate::bus_line::BusLine;
 use crate::frame::{CanId, KnownId};
 use crate::frame_text::FrameText;
 use crate::lanes::{eight_of_word, is_within};
-use crate::line::{has_extended, is_among, wide_id_of};
+use crate::line::{has_extended, is_among, is_fd_among, is_fd_length, wide_id_of};
 use crate::moment_text::MomentText;
 use std::simd::prelude::*;
 
@@ -91,6 +91,47 @@ fn wide_frame_from<'a>(known: &[KnownId], line: &'a [u8], place: usize) -> Optio
         Some(id) if is_among(known, id) => Some(frame_from(line, place, 8, id)),
         _ => None,
     }
+}
+
+/// What a line of CAN FD says where these identifiers are read, with this identifier in three digits at this place; None where it
+/// isn't well.
+#[inline(always)]
+pub fn fd_said<'a>(
+    known: &[KnownId],
+    line: &'a [u8],
+    place: usize,
+    id: CanId,
+) -> Option<BusLine<'a>>
+    requires fd { IsFd line.now place }
+    requires id { id_of (take 3 (drop place line.now)) ≡ Some id }
+    ensures { IfSome result (λ said. line_says known.now line.now ≡ Ok said) }
+{
+    let frame = fd_frame_from(known, line, place, id)?;
+    Some(BusLine::Stamped {
+        moment: MomentText::usual(line),
+        frame,
+    })
+}
+
+/// The frame of such a line, where its identifier is read by CAN FD.
+#[inline(always)]
+fn fd_frame_from<'a>(
+    known: &[KnownId],
+    line: &'a [u8],
+    place: usize,
+    id: CanId,
+) -> Option<Option<FrameText<'a>>>
+    requires { IsFd line.now place }
+    ensures { IfSome result (λ frame. fd_frame known.now id (drop (place + 5) line.now) ≡ Ok frame) }
+{
+    if !is_fd_among(known, id) {
+        return Some(None);
+    }
+    let digits = line.len() - (place + 6);
+    if digits % 2 == 1 || !is_fd_length(digits / 2) {
+        return None;
+    }
+    Some(Some(FrameText::new(id, line, digits / 2)))
 }
 
 /// Four times three bytes of the stamp, weighed as digits are: nine of the seconds, without the first, and the milliseconds.

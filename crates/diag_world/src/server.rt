@@ -160,6 +160,7 @@ impl Server {
 
     /// For how many ticks of every tester no frame and no held reply falls due and no reception or wait ends, before the last
     /// of them: the least of the ports; at least 1, and 2^64 - 1 where nothing is waited for.
+    #[inline(never)]
     pub fn quiet(&self) -> u64
         ensures is { result ≡ quiet_of (server_of self.now).ports }
         ensures some { 1 ≤ result }

@@ -12,5 +12,11 @@ pub returns : goal.returns
 returns g c =
     let setup = c.args.setup.now in
     let n = length setup.testers in
-    passed_as _ _ refl (ap₂ (λ id (bytes : List ℕ). given setup id n c.args.owner bytes) c.id.ensures (c.short.ensures ∙ c.bytes-bytes.ensures))
+    passed_as _ _ refl (ap₂ (λ id (bytes : List ℕ). given setup id n c.args.owner bytes) c.id-2.ensures (c.short.ensures ∙ c.bytes-bytes.ensures))
     c.give_bytes.ensures
+
+pub returns-then-is_long : goal.returns-then-is_long
+returns-then-is_long g c =
+    let setup = c.args.setup.now in
+    let n = length setup.testers in
+    passed_as _ _ refl (ap (λ id. given setup id n c.args.owner c.args.frame.now.bytes) c.id.ensures) (c.give_long.ensures c.args.frame.now.bytes c.digits.ensures.is)

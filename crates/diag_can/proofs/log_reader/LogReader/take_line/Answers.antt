@@ -1,35 +1,17 @@
-use Rattle.std.proofs.Common.{◌∙◌, Some, ap, sym, inl, inr, rules}
+use Rattle.std.proofs.Common.{◌∙◌}
 use Rattle.std.proofs.lemmas.Result.{IfErr-weaker, on_ok_weaker}
-use Rattle.diag_can.specs.Line.{known_to}
 use Rattle.diag_can.specs.Log.{without_return}
-use Rattle.diag_can.specs.declared.fault.LogFault.{LogFault}
-use Rattle.diag_can.proofs.Reading.{line_read, next_fault, said_fault, took_said}
-use Rattle.diag_can.proofs.UsualLines.{bus_line-says}
+use Rattle.diag_can.proofs.Reading.{line_read, next_fault}
 use Rattle.diag_can.proofs.log_reader.LogReader.take_line.Goals as goal
 
-pub returns-in_ok-number-in-None-clause-took : goal.returns-in_ok-number-in-None-clause-took
-returns-in_ok-number-in-None-clause-took c =
+pub returns-clause-took : goal.returns-clause-took
+returns-clause-took c =
     let line = c.without_return.ensures in
-    on_ok_weaker c.take_line.result (λ took past h. line_read h (without_return c.args.line.now) _ c.in_ok-number-in-None.ensures.room c.in_ok-number-in-None.ensures.number (rw line at took))
+    on_ok_weaker c.take_line.result (λ took past h. line_read h (without_return c.args.line.now) _ c.in-Some.ensures.room c.in-Some.ensures.number (rw line at took))
     c.take_line.ensures.took
 
-pub returns-in_ok-number-in-None-clause-fault : goal.returns-in_ok-number-in-None-clause-fault
-returns-in_ok-number-in-None-clause-fault c =
+pub returns-clause-fault : goal.returns-clause-fault
+returns-clause-fault c =
     let line = c.without_return.ensures in
     IfErr-weaker c.take_line.result _ _
-    (λ fault at known past h. next_fault h (without_return c.args.line.now) c.in_ok-number-in-None.ensures.room ∙ (rw (line, c.in_ok-number-in-None.ensures.number) at at) known) c.take_line.ensures.fault
-
-pub returns-in_ok-self-in-Some-clause-took : goal.returns-in_ok-self-in-Some-clause-took
-returns-in_ok-self-in-Some-clause-took c =
-    let says = bus_line-says (known_to c.args.ids.now) c.args.line.now c.in-Some.said (search rules) in
-    on_ok_weaker c.take.result (λ grown past h. line_read h (without_return c.args.line.now) _ c.in_ok-self-in-Some.ensures.room c.in_ok-self-in-Some.ensures.number (took_said _ says grown))
-    c.take.ensures.took
-
-pub returns-in_ok-self-in-Some-clause-fault : goal.returns-in_ok-self-in-Some-clause-fault
-returns-in_ok-self-in-Some-clause-fault c =
-    let line = without_return c.args.line.now in
-    let says = bus_line-says (known_to c.args.ids.now) c.args.line.now c.in-Some.said (search rules) in
-    IfErr-weaker c.take.result _ _ (λ fault at known past h. elim at [
-      | inl many ↦ next_fault h line c.in_ok-self-in-Some.ensures.room ∙ said_fault c.args.timing c.args.ids.now c.args.self.now.reading _ line _ says many.1 ∙ ap (λ (f : LogFault). Some f) (sym many.0)
-      | inr memory ↦ absurd (known memory.0)
-    ]) c.take.ensures.err
+    (λ fault at known past h. next_fault h (without_return c.args.line.now) c.in-Some.ensures.room ∙ (rw (line, c.in-Some.ensures.number) at at) known) c.take_line.ensures.fault

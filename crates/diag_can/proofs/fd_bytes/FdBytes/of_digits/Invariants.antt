@@ -1,6 +1,6 @@
 use Rattle.std.proofs.Common.{length}
 use Rattle.diag_can.proofs.FdTexts.{IsRead}
-use Rattle.diag_can.proofs.frame_text.bytes_of.Given as goal
+use Rattle.diag_can.proofs.fd_bytes.FdBytes.of_digits.Given as goal
 
 abbrev pub invariant-loop-sixteen : goal.invariant-loop-sixteen
 invariant-loop-sixteen l = IsRead l.digits l.rest l.bytes

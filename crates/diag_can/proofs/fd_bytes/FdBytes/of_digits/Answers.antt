@@ -1,7 +1,7 @@
 use Rattle.std.proofs.Common.{ℕ, List, ◌++◌, Ok, ap, sym, ◌∙◌, arith}
 use Rattle.std.specs.Int.{to_le_bytes, w64}
 use Rattle.diag_can.proofs.FdTexts.{all_read, more_read, none_read}
-use Rattle.diag_can.proofs.frame_text.bytes_of.Goals as goal
+use Rattle.diag_can.proofs.fd_bytes.FdBytes.of_digits.Goals as goal
 
 pub loop-sixteen-init : goal.loop-sixteen-init
 loop-sixteen-init c = let none = c.new-bytes.ensures in rw none (none_read c.args.digits.now c.requires.hex c.requires.few (λ k. c.type_inv.digits k))
