@@ -242,13 +242,10 @@ def test_captures(room, program):
 
 def loop():
     """The processor seconds of a million turns of an empty loop."""
-    taken = []
-    for _ in range(5):
-        begun = time.process_time()
-        for _ in range(200_000):
-            pass
-        taken.append(time.process_time() - begun)
-    return 5 * min(taken)
+    begun = time.process_time()
+    for _ in range(1_000_000):
+        pass
+    return time.process_time() - begun
 
 
 def rates_of(measure):
