@@ -4,7 +4,7 @@ use Rattle.std.specs.List.{prefix_len}
 use Rattle.std.proofs.lemmas.Bool.{agree_below, agree_below_at, cases_lt, eqb-true, ne_eqb}
 use Rattle.std.proofs.lemmas.Bool.Decides.{nat_tests}
 use Rattle.std.proofs.lemmas.Grind.{get_or_default_zero}
-use Rattle.std.proofs.lemmas.List.{get_or-drop, get_or-take, take_all, take_at}
+use Rattle.std.proofs.lemmas.List.{drop-append-le, get_or-drop, get_or-take, take-append-le, take_all, take_at}
 use Rattle.std.proofs.lemmas.List.Elements.{All-append, All-cons, All-nil}
 use Rattle.std.proofs.lemmas.List.Sums.{prefix_len_passes}
 use lib.Seq.{drop-append_seam}
@@ -199,6 +199,21 @@ module _ (text line after : List ℕ) (place width : ℕ) (f : BeginsFramed text
 
   pub in_line : (k : ℕ) → k < length line → get_or line k 0 ≡ get_or text k 0
   in_line = line_at text line after place f within h.ends
+
+  pub shorter : length after < length text
+  shorter = elim h.ends [
+    | inl feed ↦ omega (arith, ap length feed, length-append line (10 ∷ after))
+    | inr both ↦ omega (arith, ap length both, length-append line (13 ∷ 10 ∷ after))
+  ]
+
+  -- what stands behind the place in the text begins with the same digits as in the line
+  pub same_digits : (part : List ℕ) → part ≡ take (length text - place) (drop place text) → take width part ≡ take width (drop place line)
+  same_digits part cut =
+      let inside = h.inside in
+      let rest = begins text line after place f within h.ends in
+      let whole : part ≡ drop place text = cut ∙ take_all (length text - place) (drop place text) (omega (arith, length-drop place text)) in
+      ap (take width) (whole ∙ (ap (drop place) rest.1 ∙ drop-append-le place line rest.0 (omega arith)))
+      ∙ take-append-le width (drop place line) rest.0 (omega (arith, length-drop place line))
 
   module _ (id : (k : ℕ) → place ≤ k → k < place + width → is_hex_digit (get_or text k 0) ≡ true) (mark : get_or text (place + width) 0 ≡ 35) where
     line_digit : (k : ℕ) → place ≤ k → k < place + width → is_hex_digit (get_or line k 0) ≡ true

@@ -140,9 +140,10 @@ fn usual_front<'a>(known: &[KnownId], text: &'a [u8]) -> Option<FirstLine<'a>>
     if text[place + 3] != b'#' {
         return wide_front(known, text, place);
     }
-    let Some((line, after)) = framed_front(text, place, 3) else {
+    if text[place + 4] == b'#' {
         return fd_front(known, text, place);
-    };
+    }
+    let (line, after) = framed_front(text, place, 3)?;
     let id = short_id(&text[place..])?;
     Some(told(text, after, said_from(line, place, id)))
 }

@@ -152,6 +152,7 @@ impl LogReader {
     }
 
     /// Takes the line that comes next, whatever its form is.
+    #[inline(never)]
     fn take_line(&mut self, ids: &Ids, timing: Timing, line: &[u8]) -> Result<(), LogFault>
         requires { (past : List (List ℕ)) × AreRead ids.now timing self.old past }
         ensures took { OnOk result ((past : List (List ℕ))
