@@ -1,7 +1,7 @@
 //! The kinds of frames (ISO 15765-2:2016, 9.6), and the lengths that they imply.
 
 ghost use Rattle.std.specs.Prelude.{◌≡◌, ℕ, ◌<◌, ◌≤◌, ◌+◌, Some, length, take, drop, slice_index, ◌*◌};
-ghost use Rattle.diag_pdu.specs.Kind.{Ignored, says, kind, single_kind, long_single_kind, first_kind, escape_kind, flow_kind, escape_length, IsRead, IsShort};
+ghost use Rattle.diag_pdu.specs.Kind.{Ignored, Single, says, kind, single_kind, long_single_kind, first_kind, escape_kind, flow_kind, escape_length, IsRead, IsShort};
 ghost use Rattle.diag_pdu.specs.Length.{in_bytes, length_of, single_most};
 ghost use Rattle.diag_pdu.specs.Cut.{head_size, consecutive_count, gone_with};
 
@@ -46,30 +46,32 @@ fn single(count: u8, bytes: &[u8]) -> Pci<'_>
 {
     let len = usize::from(count);
     if len >= 1 && len <= 7 && len < bytes.len() && bytes.len() <= 8 {
-        Pci::Single(&bytes[1..1 + len])
-    } else {
-        other_single(count, bytes)
+        return Pci::Single(&bytes[1..1 + len]);
+    }
+    match long_single(count, bytes) {
+        0 => Pci::Ignored,
+        len => Pci::Single(&bytes[2..2 + len]),
     }
 }
 
-/// A SingleFrame of more than 8 bytes, or one that has no valid length. (A call, so that a usual one needn't be put together
-/// with it.)
+/// How many bytes the message has of a SingleFrame of more than 8 bytes, behind the first two; 0 where its length isn't valid, and
+/// of shorter frames. (A call that answers a number, so that a usual one needn't be put together with it, or lie in memory.)
 #[inline(never)]
-fn other_single(count: u8, bytes: &[u8]) -> Pci<'_>
+fn long_single(count: u8, bytes: &[u8]) -> usize
     requires other { length bytes.now ≤ 8 → single_kind count bytes.now ≡ Ignored }
     requires few { length bytes.now ≤ 64 }
-    ensures kind { says result ≡ single_kind count bytes.now }
-    ensures read { (max : ℕ) → IsRead max (single_kind count bytes.now) }
-    ensures short { length bytes.now ≤ 8 → IsShort (single_kind count bytes.now) }
+    ensures none { result ≡ 0 → single_kind count bytes.now ≡ Ignored }
+    ensures some { 0 < result → single_kind count bytes.now ≡ Single (take result (drop 2 bytes.now)) }
+    ensures fits { 0 < result → (result + 2 ≤ length bytes.now) × (8 < length bytes.now) }
 {
     if bytes.len() <= 8 {
-        return Pci::Ignored;
+        return 0;
     }
     let len = usize::from(bytes[1]);
     if count == 0 && len >= 8 && len + 2 <= bytes.len() {
-        Pci::Single(&bytes[2..2 + len])
+        len
     } else {
-        Pci::Ignored
+        0
     }
 }
 
