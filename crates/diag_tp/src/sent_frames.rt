@@ -106,6 +106,21 @@ impl SentFrames {
     {
         match &mut self.list {
             FrameList::Short(list) if matches!(tx_dl, DataLength::Dl8) => list.reserve(count),
+            FrameList::Short(_) => self.lengthen(count),
+            FrameList::Long(list) => list.reserve(count),
+        }
+    }
+
+    /// Makes room for so many more frames, longer ones too. Refused where memory is; the frames stay.
+    #[cold]
+    #[inline(never)]
+    fn lengthen(&mut self, count: usize) -> Result<(), AllocError>
+        ensures same { self.new.items ≡ self.old.items }
+        ensures room { OnOk result (count ≤ self.new.room) }
+        ensures long_room { OnOk result (count ≤ self.new.long_room) }
+        ensures small { self.new.room < 2 ^ 63 }
+    {
+        match &mut self.list {
             FrameList::Short(list) => {
                 self.list = FrameList::Long(lengthened(list.as_slice(), *list.allocator(), count)?);
                 Ok(())
