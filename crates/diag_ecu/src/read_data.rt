@@ -107,7 +107,7 @@ impl Ecu {
     {
         match self.value_for(who, high, low) {
             Ok(value) => {
-                *answer = self.say_value(high, low, value)?;
+                self.put_value(high, low, value, answer)?;
                 Ok(None)
             }
             Err(nrc) => Ok(Some(nrc)),
@@ -135,20 +135,43 @@ impl Ecu {
         }
     }
 
-    /// An identifier with its value. Up to eight bytes are put together at once.
+    /// Puts an identifier with its value in the reply's place. Up to eight bytes are put together at once.
     #[inline(always)]
-    fn say_value(&self, high: u8, low: u8, value: &[u8]) -> Result<Option<Message>, AllocError>
+    fn put_value(
+        &self,
+        high: u8,
+        low: u8,
+        value: &[u8],
+        answer: &mut Option<Message>,
+    ) -> Result<(), AllocError>
         requires { length value.now ≤ 255 }
-        ensures { IfOk result (λ reply. reply ≡ Some (0x62 ∷ high ∷ low ∷ value.now)) }
+        ensures { OnOk result (answer.new ≡ Some (0x62 ∷ high ∷ low ∷ value.now)) }
     {
         if value.len() > 5 {
-            return self.say_long(&[0x62, high, low], value);
+            return self.put_long_value(high, low, value, answer);
         }
         let bytes = FrameBytes::made_of(value)
             .behind(low)
             .behind(high)
             .behind(0x62);
-        Ok(Some(Message::in_place(bytes)))
+        *answer = Some(Message::in_place(bytes));
+        Ok(())
+    }
+
+    /// The same of a value for which the reply takes memory. (Called, so that its parts lie in no memory of the caller's.)
+    #[inline(never)]
+    fn put_long_value(
+        &self,
+        high: u8,
+        low: u8,
+        value: &[u8],
+        answer: &mut Option<Message>,
+    ) -> Result<(), AllocError>
+        requires { length value.now ≤ 255 }
+        ensures { OnOk result (answer.new ≡ Some (0x62 ∷ high ∷ low ∷ value.now)) }
+    {
+        *answer = self.say_long(&[0x62, high, low], value)?;
+        Ok(())
     }
 
     /// The value of an identifier, or the NRC of the first check that holds of it.
