@@ -1,6 +1,8 @@
 //! Writing the text of a journal, in one buffer.
-ghost use Rattle.std.specs.Prelude.{◌≡◌, ◌≤◌, ◌<◌, ◌+◌, ◌*◌, ◌^◌, ◌++◌, [], length, OnOk, OnErr, IfOk, IfSome, codes, decimal, option_copied, unwrap_or, vec_len, vec_capacity};
+ghost use Rattle.std.specs.Prelude.{◌≡◌, ◌≤◌, ◌<◌, ◌+◌, ◌*◌, ◌^◌, ◌++◌, [], None, length, OnOk, OnErr, IfOk, IfSome, codes, decimal, option_copied, unwrap_or, vec_len, vec_capacity};
 ghost use Rattle.diag_desk.specs.Entries.{entry};
+ghost use Rattle.diag_pdu.specs.Request.{request_of};
+ghost use Rattle.diag_pdu.specs.declared.step.Step.{Step as AStep};
 ghost use Rattle.diag_desk.specs.Entry.{entry_seen, messages_len, step_seen};
 ghost use Rattle.diag_desk.specs.Text.{ended, entry_line, header, journal_text, journal_text_at, reply_text, stamped_line, text_of, ticks_in};
 
@@ -8,7 +10,7 @@ use crate::clocks::Clocks;
 use crate::entry::{EntryRef, StepRef};
 use crate::journal::Journal;
 use crate::version::JournalVersion;
-use diag_can::{add_bytes, add_decimal, add_hex};
+use diag_can::{TickCount, add_bytes, add_decimal, add_hex};
 use diag_setup::TesterId;
 use std::alloc::{AllocError, Global};
 use std::mem;
@@ -31,11 +33,10 @@ pub fn journal_text_at(alloc: Global, journal: &Journal) -> Result<Vec<u8>, Allo
     write_all(alloc, journal, JournalVersion::Stamped)
 }
 
-/// Appends the line of an entry in this version; `before` is the ticks of its tester before it. (Not inlined: a step of
-/// which no line is written is quicker so.)
+/// Appends the line of an entry in this version; `before` is the ticks of its tester before it.
 ///
 /// After an error the bytes that stood there are as before.
-#[inline(never)]
+#[inline(always)]
 pub fn write_entry(
     text: &mut Vec<u8>,
     version: JournalVersion,
@@ -48,8 +49,58 @@ pub fn write_entry(
         (entry_line (entry_seen entry.now)))) }
     ensures err { OnErr result (text.new.items ≡ text.old.items) }
 {
-    let at = before + ticks_in(&entry.step);
-    write_line(text, version, at, entry.who, &entry.step, entry.reply)
+    match entry.step {
+        StepRef::Request { functional, bytes } => {
+            write_request(
+                text,
+                version,
+                before,
+                entry.who,
+                functional,
+                bytes,
+                entry.reply,
+            )
+        }
+        StepRef::Ticks(count) => write_ticks(text, version, before, entry.who, count),
+    }
+}
+
+/// The line of a request; `clock` is the ticks of its tester. (Not inlined: a step of which no line is written is quicker so.)
+#[inline(never)]
+fn write_request(
+    text: &mut Vec<u8>,
+    version: JournalVersion,
+    clock: u64,
+    who: TesterId,
+    functional: bool,
+    bytes: &[u8],
+    reply: Option<&[u8]>,
+) -> Result<(), AllocError>
+    ensures ok { OnOk result (text.new.items ≡ text.old.items
+        ++ ended (stamped_line version clock
+        (entry_line (entry who (AStep.Request (request_of functional bytes.now)) (option_copied reply.entry))))) }
+    ensures err { OnErr result (text.new.items ≡ text.old.items) }
+{
+    let step = StepRef::Request { functional, bytes };
+    write_line(text, version, clock, who, &step, reply)
+}
+
+/// The line of so many ticks.
+#[inline(never)]
+fn write_ticks(
+    text: &mut Vec<u8>,
+    version: JournalVersion,
+    before: u64,
+    who: TesterId,
+    count: TickCount,
+) -> Result<(), AllocError>
+    requires { before ≤ 2 ^ 63 }
+    ensures ok { OnOk result (text.new.items ≡ text.old.items
+        ++ ended (stamped_line version (before + count) (entry_line (entry who (AStep.Ticks count) None)))) }
+    ensures err { OnErr result (text.new.items ≡ text.old.items) }
+{
+    let step = StepRef::of_ticks(count);
+    write_line(text, version, before + ticks_in(&step), who, &step, None)
 }
 
 fn write_all(
