@@ -63,15 +63,7 @@ pub fn take<T: TakeSteps>(
     }
     let delays = taker.can_delay();
     let taken = prepare(port, event, delays, out)?;
-    match taken {
-        Taken::Ignored | Taken::Other(_) => {
-            take_silent(port, event, taken, out);
-            Ok(())
-        }
-        Taken::Functional | Taken::Single | Taken::Last => {
-            take_request(port, who, event, taken, taker, out)
-        }
-    }
+    take_frame(port, who, event, taken, taker, out)
 }
 
 /// Takes ticks, which give a step that has no reply.
@@ -158,8 +150,7 @@ fn make_hold_room(port: &mut Port, out: &mut SentFrames) -> Result<(), AllocErro
 }
 
 /// Takes a frame that was read and has room, and asks nothing.
-#[cold]
-#[inline(never)]
+#[inline(always)]
 fn take_silent(port: &mut Port, event: &LentEvent<'_>, taken: Taken<'_>, out: &mut SentFrames)
     requires prepared { IsPrepared port.old event.now taken out.old }
     requires silent { asked_in port.old.link taken ≡ None }
@@ -174,10 +165,10 @@ fn take_silent(port: &mut Port, event: &LentEvent<'_>, taken: Taken<'_>, out: &m
     }
 }
 
-/// The same of a frame that completes a request. (The step is taken at this one call, whatever frame it was: so the body of
-/// whoever takes it is put here.)
+/// Takes a frame that was read and has room, and has the request that it completes, if any, taken. (The step is taken at this
+/// one call, whatever frame it was: so the body of whoever takes it is put here.)
 #[inline(always)]
-fn take_request<T: TakeSteps>(
+fn take_frame<T: TakeSteps>(
     port: &mut Port,
     who: TesterId,
     event: &LentEvent<'_>,

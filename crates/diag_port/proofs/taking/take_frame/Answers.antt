@@ -13,8 +13,8 @@ use Rattle.diag_port.specs.Fault.{IsFaultBy}
 use Rattle.diag_port.specs.Standing.{GivesStep, TookEvent, timed_asks}
 use Rattle.diag_port.proofs.Faults.{fault_by}
 use Rattle.diag_port.proofs.Standing.{frame_took}
-use Rattle.diag_port.proofs.taking.take_request.Goals as goal
-use Rattle.diag_port.proofs.taking.take_request.Goals.{then-after-eq0+then-is_empty, else-after-eq0}
+use Rattle.diag_port.proofs.taking.take_frame.Goals as goal
+use Rattle.diag_port.proofs.taking.take_frame.Goals.{then-after-eq0+then-is_empty, else-after-eq0}
 
 pub returns-clause-took : goal.returns-clause-took
 returns-clause-took g c =
