@@ -1,7 +1,8 @@
 -- A capture that comes piece by piece: what is kept of it stands for what was read and written.
-use Rattle.std.proofs.Common.{◌≡◌, ◌≢◌, ◌⊎◌, ℕ, ◌+◌, ◌-◌, ◌<◌, ◌≤◌, nat_lt, true, List, [], ◌∷◌, ◌++◌, length, take, None, Some, Option, Result, Ok, Err, OnOk, OnErr, IfErr, IsOk, IfSome, inl, inr, refl, sym, ap, subst, ◌∙◌, append_assoc, arith}
-use Rattle.std.proofs.KnownBytes.{Appends-trans}
-use Rattle.std.proofs.lemmas.List.{append-nil, length-append}
+use Rattle.std.proofs.Common.{◌≡◌, ◌≢◌, ◌⊎◌, ℕ, Bool, Vec, Global, vec_len, ◌+◌, ◌-◌, ◌<◌, ◌≤◌, nat_lt, true, List, [], ◌∷◌, ◌++◌, length, take, None, Some, Option, Result, Ok, Err, OnOk, OnErr, IfErr, IsOk, IfSome, inl, inr, refl, sym, ap, subst, ◌∙◌, append_assoc, arith}
+use Rattle.std.proofs.KnownBytes.{Appends-nil, Appends-trans}
+use Rattle.std.proofs.lemmas.List.{append-nil, length-append, nil_from_length}
+use Rattle.std.specs.Prelude.{◌==◌}
 use Rattle.diag_text.specs.Bytes.{Sends}
 use Rattle.std.proofs.lemmas.Bool.Decides.{nat_tests}
 use Rattle.std.proofs.Math.Seq.{take-append_seam}
@@ -24,6 +25,10 @@ use Rattle.diag_run.specs.Capturing.{Closes, ClosesEnded, GoesOn, Halts, HaltsEn
 use Rattle.diag_run.specs.declared.capture.Capture.{Capture}
 use Rattle.diag_run.specs.declared.capture.CaptureFault.{CaptureFault}
 use Rattle.diag_run.specs.declared.capture.CaptureFault.TheVariants.{Line, Memory, Read, Write, Otherwise}
+
+-- nothing is kept where that is seen
+pub none_kept : {empty : Bool} (kept : Vec ℕ Global) → empty ≡ (vec_len kept == 0) → empty ≡ true → kept.items ≡ []
+none_kept kept is tested = nil_from_length kept.items (grind (arith, nat_tests))
 
 IsFrontOf-trans : (front mid text : List ℕ) → IsFrontOf front mid → IsFrontOf mid text → IsFrontOf front text
 IsFrontOf-trans front mid text a b = (a.0 ++ b.0, b.1 ∙ (ap (λ (m : List ℕ). m ++ b.0) a.1 ∙ append_assoc front a.0 b.0))
@@ -595,6 +600,23 @@ module _ {S A : Type 0} (g : Ghosts S) (took : S → RawSetup → List (List ℕ
     pub sends : Appends out out' sent
     pub on : GoesOn took want_of old new gone sent
     pub lines : new.lines ≤ old.lines + length gone
+
+  -- at its begin nothing of the piece was taken
+  pub begun_so_far : (old : Capture S g) (out : Option (List ℕ)) (piece : List ℕ) → SoFar old old out out piece piece
+  begun_so_far old out piece = record {
+    gone = [];
+    is = refl;
+    sent = [];
+    sends = Appends-nil out;
+    on = record {
+      setup = refl;
+      want = refl;
+      stands = λ seen wrote s.
+          subst (λ (w : List ℕ). Stands took want_of old (seen ++ []) w) (sym (append-nil wrote))
+          (subst (λ (b : List ℕ). Stands took want_of old b wrote) (sym (append-nil seen)) s);
+    };
+    lines = omega arith;
+  }
 
   Halts-more : (want : Wanted) (setup : RawSetup) (fault : CaptureFault) (seen bytes tail wrote : List ℕ) → Halts want setup fault (seen ++ bytes) wrote
       → Halts want setup fault (seen ++ (bytes ++ tail)) wrote

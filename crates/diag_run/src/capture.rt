@@ -122,6 +122,34 @@ impl<S: Ending> Capture<S> {
         ensures device { IsWritings W.failed W.sound out.old out.new result }
         ensures flushed { OnOk result (W.flushed out.new) }
     {
+        if self.kept.is_empty() {
+            return self.take_lines(piece, out);
+        }
+        match first_line(self.bus.known(), piece) {
+            Some(first) => {
+                self.take_line(first.line, None, out)?;
+                self.take_lines(first.after, out)
+            }
+            None => self.take_begun(piece, out),
+        }
+    }
+
+    /// Takes a piece before which nothing is kept. (So no line of it is asked whether something is.)
+    ///
+    /// # Errors
+    /// As `take_piece`.
+    fn take_lines<W: Target>(&mut self, piece: &[u8], out: &mut W) -> Result<(), CaptureFault>
+        requires room { self.old.lines + length piece.now + 1 < 2 ^ 64 }
+        requires none { self.old.kept.items ≡ [] }
+        ensures ok { OnOk result (Sends (W.contents out.old) (W.contents out.new)
+            (GoesOn S.took (wanted S.written S.ends S.aim) self.old self.new piece.now)) }
+        ensures written { OnOk result (self.new.text.items ≡ []) }
+        ensures lines { OnOk result (self.new.lines ≤ self.old.lines + length piece.now) }
+        ensures err { IfErr result (λ fault. Sends (W.contents out.old) (W.contents out.new)
+            (HaltsIn S.took (wanted S.written S.ends S.aim) self.old fault piece.now)) }
+        ensures device { IsWritings W.failed W.sound out.old out.new result }
+        ensures flushed { OnOk result (W.flushed out.new) }
+    {
         let mut rest = piece;
         while let Some(first) = first_line(self.bus.known(), rest) {
             if let Err(fault) = self.take_line(first.line, first.said, out) {
@@ -132,8 +160,8 @@ impl<S: Ending> Capture<S> {
         self.take_begun(rest, out)
     }
 
-    /// Takes the line that these bytes and an LF end, which say this alone, where that is known. What is to be written is
-    /// written where it is much.
+    /// Takes the line that these bytes and an LF end. Where nothing is kept of it, what they say may be told. What is to be
+    /// written is written where it is much.
     #[inline(always)]
     fn take_line<W: Target>(
         &mut self,
@@ -143,6 +171,7 @@ impl<S: Ending> Capture<S> {
     ) -> Result<(), CaptureFault>
         requires room { self.old.lines + 1 < 2 ^ 64 }
         requires line { HasNoFeed bytes.now }
+        requires none { IfSome said (λ _. self.old.kept.items ≡ []) }
         requires says { IfSome said (λ said. line_said self.old.bus.setup bytes.now ≡ Ok said) }
         ensures ok { OnOk result (Sends (W.contents out.old) (W.contents out.new)
             (GoesOn S.took (wanted S.written S.ends S.aim) self.old self.new (bytes.now ++ 10 ∷ []))) }
@@ -191,6 +220,7 @@ impl<S: Ending> Capture<S> {
     fn end_line(&mut self, bytes: &[u8], said: Option<BusLine>) -> Result<(), BusFault>
         requires room { self.old.lines + 1 < 2 ^ 64 }
         requires line { HasNoFeed bytes.now }
+        requires none { IfSome said (λ _. self.old.kept.items ≡ []) }
         requires says { IfSome said (λ said. line_said self.old.bus.setup bytes.now ≡ Ok said) }
         ensures ok { OnOk result (GoesOn S.took (wanted S.written S.ends S.aim) self.old self.new (bytes.now ++ 10 ∷ []) []) }
         ensures lines { OnOk result (self.new.lines ≡ self.old.lines + 1) }
@@ -200,8 +230,8 @@ impl<S: Ending> Capture<S> {
         ensures seen { SeesFault S.took self.old bytes.now (λ fault. result ≡ Err fault) }
     {
         match said {
-            Some(said) if self.kept.is_empty() => self.take_told(bytes, said),
-            _ => self.take_other(bytes),
+            Some(said) => self.take_told(bytes, said),
+            None => self.take_other(bytes),
         }
     }
 

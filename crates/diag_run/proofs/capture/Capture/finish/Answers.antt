@@ -2,14 +2,10 @@ use Rattle.std.proofs.Common.{◌≡◌, ◌<◌, ◌++◌, ℕ, Bool, true, fal
 use Rattle.std.specs.Prelude.{◌==◌}
 use Rattle.std.proofs.KnownBytes.{Appends-trans}
 use Rattle.std.proofs.lemmas.Bool.Decides.{nat_tests}
-use Rattle.std.proofs.lemmas.List.{nil_from_length}
 use Rattle.std.proofs.lemmas.Result.{IfErr-weaker, IfOk-weaker, err_from_is_err_and}
 use Rattle.diag_run.specs.declared.capture.CaptureFault.TheVariants.{Write}
-use Rattle.diag_run.proofs.Pieces.{closes_begun, closes_ended, cut_begun, halts_begun, halts_ended, ok_is_no_fault, writings_behind, writings_passed}
+use Rattle.diag_run.proofs.Pieces.{closes_begun, closes_ended, cut_begun, halts_begun, halts_ended, none_kept, ok_is_no_fault, writings_behind, writings_passed}
 use Rattle.diag_run.proofs.capture.Capture.finish.Goals as goal
-
-none_kept : {empty : Bool} (kept : Vec ℕ Global) → empty ≡ (vec_len kept == 0) → empty ≡ true → kept.items ≡ []
-none_kept kept is tested = nil_from_length kept.items (grind (arith, nat_tests))
 
 some_kept : {empty : Bool} (kept : Vec ℕ Global) → empty ≡ (vec_len kept == 0) → empty ≡ false → 0 < length kept.items
 some_kept kept is tested = grind (arith, nat_tests)
