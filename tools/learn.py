@@ -11,7 +11,8 @@ CAPTURE is a recording of `candump -L`, or, where python-can is installed, one o
 python-can (.db). The testers are the pairs that are given, or those that are found. A pair of which a frame is one of CAN FD
 talks by that, and so does one that is given as REQUEST:RESPONSE:fd=NAME. With `--interface` the frames of one interface
 count. With `--varies` an identifier that was read with different values, and seeds that differ, aren't compared, but for
-how long they are; without it their values come one after the other, round and round.
+how long they are; where the same request was refused in between, or the length changed, a row has the answers in turn, with
+`??` for each byte of the value. Without it their values come one after the other, round and round.
 
 The judge is `compare` of the program that ./uds_play starts: a setup is made, compared with the recording, and what differs
 becomes rows of answers, until nothing differs or nothing gets better. The status is 0 where nothing differs; 8 where
