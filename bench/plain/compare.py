@@ -11,11 +11,12 @@
 The workloads are those of bench/workloads.py, without those of `compare`, which the twin doesn't know. For each it is seen
 that both write the same bytes (with the journal and the end too, where the command has them), and a row in Markdown tells
 the instructions of each for a line more (by valgrind's callgrind, of two short runs the difference), the processor's
-nanoseconds for a line more (its own and the system's for it: the least of fifteen runs, in which the two take turns, less
+nanoseconds for a line more (its own and the system's for it: the least of ninety runs, in which the two take turns, less
 the least of runs with a tenth of the lines), the most memory of each in KiB (of five runs, each looked at five times a
 millisecond), and how many times the twin's the program's are. The last row has the geometric means of these.
-Instructions are the same in each run; times feel what else the machine does. The twin is built by the line that stands in
-main.rs, which wants `rustc`.
+Instructions are the same in each run; times feel what else the machine does. So all workloads are gone through again and
+again, and each has moments in which that is little. The twin is built by the line that stands in main.rs, which wants
+`rustc`.
 """
 import argparse
 import math
@@ -30,8 +31,8 @@ HERE = os.path.dirname(os.path.abspath(__file__))
 sys.path.insert(0, os.path.dirname(HERE))
 import workloads as module
 
-# the runs of which the least time counts
-RUNS = 15
+# how often all workloads are gone through, and the runs of each then; the least time counts
+ROUNDS, RUNS = 30, 3
 
 # other flags under which both have to write the same bytes
 FLAGS = {"serial": [[], ["--journal"]], "bus": [[], ["--journal"], ["--end"]], "verify": [[]], "replay": [[]]}
@@ -60,9 +61,10 @@ def check_bytes(name, programs, words):
     return len(FLAGS[command])
 
 
-def costs(room, programs, work):
+def costs(programs, work):
     """Returns the instructions of each program for a line more."""
-    return [int(it.replace(",", "")) for it in module.for_a_line(room, programs, work)]
+    with tempfile.TemporaryDirectory() as room:
+        return [int(it.replace(",", "")) for it in module.for_a_line(room, programs, work)]
 
 
 def spent(program, words):
@@ -73,16 +75,24 @@ def spent(program, words):
     return after.ru_utime - before.ru_utime + after.ru_stime - before.ru_stime
 
 
-def least(programs, words):
-    """Returns the least seconds of each program."""
-    return [min(each) for each in zip(*([spent(it, words) for it in programs] for _ in range(RUNS)))]
+class Files:
+    """The words of a workload's command, how many lines its files have, and the least seconds of each program over them."""
+
+    def __init__(self, room, programs, work, lines):
+        os.mkdir(room)
+        self.words = module.words_of(room, programs[0], work, lines)
+        self.lines = module.count_of(work, self.words, lines)
+        self.seconds = [math.inf for _ in programs]
+
+    def run(self, programs):
+        for _ in range(RUNS):
+            self.seconds = [min(least, spent(it, self.words)) for least, it in zip(self.seconds, programs)]
 
 
-def times(room, programs, work, lines):
+def times(fewer, more):
     """Returns the processor's nanoseconds of each program for a line more."""
-    few = least(programs, module.words_of(room, programs[0], work, lines // 10))
-    all_of = least(programs, module.words_of(room, programs[0], work, lines))
-    return [max(round((more - less) * 1e9 / (lines - lines // 10)), 1) for less, more in zip(few, all_of)]
+    lines = more.lines - fewer.lines
+    return [max(round((long - short) * 1e9 / lines), 1) for short, long in zip(fewer.seconds, more.seconds)]
 
 
 def memory(program, words):
@@ -97,23 +107,13 @@ def row(*cells):
     print(f"| {' | '.join(cells)} |", flush=True)
 
 
-def measure(room, name, programs, work, words):
+def measure(name, programs, work, files):
     """Prints a workload's row, and returns its three ratios."""
-    line = costs(room, programs, work)
-    # the short runs have written over the files, and the last of these write them as they were
-    time = times(room, programs, work, words.lines)
-    most = [memory(it, words.words) for it in programs]
-    pairs = (line, time, most)
+    fewer, more = files
+    most = [memory(it, more.words) for it in programs]
+    pairs = (costs(programs, work), times(fewer, more), most)
     row(name, *(cell for proved, plain in pairs for cell in (f"{proved:,}", f"{plain:,}", f"{proved / plain:.2f}")))
     return [proved / plain for proved, plain in pairs]
-
-
-class Words:
-    """The words of a workload's command, whose files have so many lines."""
-
-    def __init__(self, room, program, work, lines):
-        self.lines = lines
-        self.words = module.words_of(room, program, work, lines)
 
 
 def main():
@@ -128,17 +128,20 @@ def main():
     known = {name: it for name, it in module.workloads(given.seed).items() if it[0] != ["compare"]}
     works = {name: it for name, it in known.items() if any(word in name for word in given.only)}
     same, ratios = 0, []
-    if not given.bytes:
-        kinds = [f"{kind}, {which}" for kind in ("instructions a line", "nanoseconds a line", "KiB") for which in ("proved", "plain", "ratio")]
-        row("workload", *kinds)
-        print(f"|---|{'---|' * len(kinds)}", flush=True)
     with tempfile.TemporaryDirectory() as room:
         programs = [os.path.abspath(it) for it in (given.program or module.program(), given.plain or built(room))]
-        for name, work in works.items():
-            words = Words(room, programs[0], work, given.lines)
-            same += check_bytes(name, programs, words.words)
-            if not given.bytes:
-                ratios.append(measure(room, name, programs, work, words))
+        counts = [given.lines] if given.bytes else [given.lines // 10, given.lines]
+        files = {name: [Files(f"{room}/{name} {count}", programs, work, count) for count in counts] for name, work in works.items()}
+        for name, of_it in files.items():
+            same += check_bytes(name, programs, of_it[-1].words)
+        if not given.bytes:
+            for _ in range(ROUNDS):
+                for it in (it for of_it in files.values() for it in of_it):
+                    it.run(programs)
+            kinds = [f"{kind}, {which}" for kind in ("instructions a line", "nanoseconds a line", "KiB") for which in ("proved", "plain", "ratio")]
+            row("workload", *kinds)
+            print(f"|---|{'---|' * len(kinds)}", flush=True)
+            ratios = [measure(name, programs, work, files[name]) for name, work in works.items()]
     if ratios:
         row("geometric mean", *(cell for it in zip(*ratios) for cell in ("", "", f"{mean(it):.2f}")))
     print(f"\n{same} runs of {len(works)} workloads, {given.lines:,} lines each: the same bytes")
