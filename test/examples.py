@@ -1,7 +1,8 @@
 #!/usr/bin/env python3
 """Runs the worked examples by the built program, and compares whole outputs and statuses: those of runs/examples.txt and
 runs/answers.txt, those of runs/refusals.txt, and those whose logs or journals are built here. Of a play that ends well the
-slow twin of test/uds_link.py has to agree, too. The last line is 'N passed, M failed'. With `--files NAME FOLDER` it only
+slow twin of test/uds_link.py has to agree, too, and its journal is replayed. Those of runs/answers.txt of tester A alone are
+heard by `bus` and `live` as well. The last line is 'N passed, M failed'. With `--files NAME FOLDER` it only
 writes the files of that example of runs/examples.txt or runs/answers.txt."""
 import subprocess
 import sys
@@ -102,6 +103,55 @@ def run_file():
             words = [job, *parts.get("flags", [])]
             tells = "".join(parts.get("tells", []))
             check(parts["name"], words, files, text(parts, "prints"), tells, int("".join(parts.get("status", "0"))))
+        if not {"flags", "status"} & parts.keys():
+            replays_itself(parts["name"], files, text(parts, "prints"))
+        if parts["setup"] == ANSWERS and "b" not in parts:
+            is_heard(parts["name"], files, text(parts, "prints"))
+
+
+def frames_of(text):
+    """The frames that a text says A was sent. (What a functional request of A draws from B goes to B.)"""
+    return [it for it in text.splitlines() if it.startswith("(") and " A " in it]
+
+
+def replays_itself(name, files, prints):
+    """The journal of a play, replayed, leaves the ECU that the play left."""
+    journal = f"diag-journal{prints.partition('diag-journal')[2].partition('session')[0]}"
+    count = len(journal.splitlines()) - 1
+    check(f"{name}: its journal", ["replay"], [files[0], journal], f"entries {count}\nsession{prints.partition('session')[2]}")
+
+
+def without_stamps(lines):
+    return [it.split(maxsplit=1)[1] for it in lines]
+
+
+def is_heard(name, files, prints):
+    """A's log as a recording, by `bus`, and as it is heard, by `live`: the same frames, of `bus` at the same times. As long as
+    the end isn't seen, time passes in `live`: what falls due in a second more may come, too."""
+    frames = frames_of(prints)
+    with tempfile.TemporaryDirectory() as room:
+        for file, what in (("setup", files[0]), ("a", files[1]), ("longer", f"{files[1]}tick 1000\n")):
+            with open(f"{room}/{file}", "w") as it:
+                it.write(what)
+        how = {"cwd": room, "capture_output": True, "text": True, "timeout": 120}
+        ran = subprocess.run([PROGRAM, "--quiet", "bus", "setup", "a"], **how)
+        told(ran.returncode == 0 and frames_of(ran.stdout) == frames, f"{name}: bus", ran)
+        longer = frames_of(subprocess.run([PROGRAM, "--quiet", "bus", "setup", "longer"], **how).stdout)
+        with open(f"{room}/a") as it:
+            # (a file comes in one piece, so between its lines no time passes but what they say)
+            ran = subprocess.run([PROGRAM, "--quiet", "live", "setup"], stdin=it, **how)
+        heard = without_stamps(frames_of(ran.stdout))
+        fits = heard[: len(frames)] == without_stamps(frames) and heard == without_stamps(longer)[: len(heard)]
+        told(ran.returncode == 0 and fits, f"{name}: live", ran)
+        journal = subprocess.run([PROGRAM, "--quiet", "bus", "--journal", "setup", "a"], **how).stdout
+        end = subprocess.run([PROGRAM, "--quiet", "bus", "--end", "setup", "a"], **how).stdout
+    check(f"{name}: the journal of bus", ["replay"], [files[0], journal], f"entries {len(journal.splitlines()) - 1}\n{end}")
+
+
+def functional_rounds():
+    """On a bus with A and B a functional request moves the row's next template twice."""
+    sent = f"{STAMP.split(maxsplit=1)[0]} A 7E8#0562F40C0B54CCCC\n{STAMP.split(maxsplit=1)[0]} B 7E9#0562F40C0B70CCCC\n"
+    check("rule-functional-rounds", ["bus"], [ANSWERS, log(["7DF#0322F40C"])], sent)
 
 
 def consecutives(count):
@@ -396,7 +446,7 @@ def main():
         write_example(*sys.argv[2:])
         return 0
     told.needs_program()
-    groups = [run_file, refusals, long_requests, long_replies, many_reads, two_routines, largest_setup, any_key, log_faults, a_million_events]
+    groups = [run_file, functional_rounds, refusals, long_requests, long_replies, many_reads, two_routines, largest_setup, any_key, log_faults, a_million_events]
     for group in [*groups, replays, config_faults, read_while_written]:
         group()
     return told.ended()
