@@ -10,6 +10,7 @@ import sys
 import tempfile
 import threading
 
+from examples import files_of, frames_of, of_files, text
 from harness import PROGRAM, TOP, Tally
 
 MOST_OF_A_CONFIG = 1_048_576
@@ -81,7 +82,15 @@ def writes_fail(pool, room, case, preload):
                (found[0], found[2], found[3]) == (7, CANNOT_WRITE, at) and len(found[1]) == at - 1 and case.is_front(found[1]))
 
 
+def example(name):
+    """The setup and the logs of a worked example, and what its play prints."""
+    parts = next(it for it in of_files() if it["name"] == name)
+    return dict(zip(("setup", "a", "b"), (it.encode() for it in files_of(parts)))), text(parts, "prints")
+
+
 SETUP = {"setup": read("setup.toml")}
+# a row of answers that takes its time: response pending, then the answer, behind which another reply waits
+SLOW, SLOWLY = example("rule-slow")
 MIXED = b"diag-journal 1\n"
 PLAYED = read("logs/threaded_play/lines")
 CAPTURE = read("bus/order/no_last_line_feed.log")
@@ -91,16 +100,17 @@ FILES = [
     Case("serial", ["serial", "setup", "a", "b"], {**SETUP, "a": read("logs/two_testers/a.log"), "b": read("logs/two_testers/b.log")}, read("logs/two_testers/stdout")),
     Case("play", ["play", "setup", "a", "b"], {**SETUP, "a": read("logs/threaded_play/a.log"), "b": read("logs/threaded_play/b.log")}, PLAYED,
          settled=PLAYED.index(MIXED) + len(MIXED)),
+    *(Case(f"{it}, a slow answer", [it, "setup", "a", "b"], SLOW, SLOWLY.encode()) for it in ("serial", "play")),
     Case("replay", ["replay", "setup", "journal"], {**SETUP, "journal": read("logs/replay/journal")}, read("logs/replay/stdout")),
 ]
 
 
-def drawn(text, header, lines):
+def drawn(text, header, lines, capture=CAPTURE):
     """What a capture whose lines draw so many lines of the text has written when so many of its bytes were read."""
     parts = text.splitlines(keepends=True)
 
     def written(count):
-        whole = CAPTURE[:count].count(b"\n")
+        whole = capture[:count].count(b"\n")
         return b"".join(parts[: header + sum(lines[:whole])]) if count else b""
 
     return written
@@ -112,7 +122,10 @@ def captures():
     capture, unwritten = {**SETUP, "capture": CAPTURE}, lambda count: b""
     verify = ["verify", "setup", "capture"]
     lacking = read("bus/order/verify.stderr").decode()
+    slow = "".join(f"{it}\n" for it in frames_of(SLOWLY)).encode()
+    slowly = {"setup": SLOW["setup"], "capture": SLOW["a"]}
     return [
+        (Case("bus, a slow answer", ["bus", "setup", "capture"], slowly, slow), drawn(slow, 0, (0, 0, 3), SLOW["a"])),
         (Case("bus", ["bus", "setup", "capture"], capture, replies), drawn(replies, 0, REPLIES)),
         (Case("bus -", ["bus", "setup", "-"], {**SETUP, "-": CAPTURE}, replies), drawn(replies, 0, REPLIES)),
         (Case("bus --journal", ["bus", "--journal", "setup", "capture"], capture, journal), drawn(journal, 1, ENTRIES)),
