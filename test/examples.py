@@ -148,10 +148,23 @@ def is_heard(name, files, prints):
     check(f"{name}: the journal of bus", ["replay"], [files[0], journal], f"entries {len(journal.splitlines()) - 1}\n{end}")
 
 
-def functional_rounds():
-    """On a bus with A and B a functional request moves the row's next template twice."""
-    sent = f"{STAMP.split(maxsplit=1)[0]} A 7E8#0562F40C0B54CCCC\n{STAMP.split(maxsplit=1)[0]} B 7E9#0562F40C0B70CCCC\n"
-    check("rule-functional-rounds", ["bus"], [ANSWERS, log(["7DF#0322F40C"])], sent)
+def two_on_a_bus():
+    """What the rows of A and of B have in common, by `bus` and by `live`: the next template, which a functional request moves
+    on twice, and the session that a row enters, though not past its holder."""
+    past = f'{SETUP}\n[[answer]]\nrequest = "1002"\nreply = ["5002003201F4"]\nenter = 2\n'
+    extended, programming, refused = "A 7E8#065003003201F4CC", "A 7E8#065002003201F4CC", "B 7E9#037F1021CCCCCCCC"
+    for name, setup, lines, frames in (
+        ("rule-functional-rounds", ANSWERS, ["7DF#0322F40C"], ["A 7E8#0562F40C0B54CCCC", "B 7E9#0562F40C0B70CCCC"]),
+        ("rule-enter", ANSWERS, ["7E0#021003", "7E0#021002", "7E1#021003", "7E0#021003"], [extended, programming, refused, extended]),
+        ("rule-enter, past the holder", past, ["7E0#021003", "7E1#021002", "7E0#021002"], [extended, refused, programming]),
+    ):
+        stamp = STAMP.split(maxsplit=1)[0]
+        check(f"{name}, on a bus", ["bus"], [setup, log(lines)], "".join(f"{stamp} {it}\n" for it in frames))
+        with tempfile.TemporaryDirectory() as room:
+            with open(f"{room}/setup", "w") as it:
+                it.write(setup)
+            ran = subprocess.run([PROGRAM, "--quiet", "live", f"{room}/setup"], input=log(lines), capture_output=True, text=True, timeout=120)
+        told(ran.returncode == 0 and without_stamps(ran.stdout.splitlines()) == frames, f"{name}, on a bus: live", ran)
 
 
 def consecutives(count):
@@ -446,7 +459,7 @@ def main():
         write_example(*sys.argv[2:])
         return 0
     told.needs_program()
-    groups = [run_file, functional_rounds, refusals, long_requests, long_replies, many_reads, two_routines, largest_setup, any_key, log_faults, a_million_events]
+    groups = [run_file, two_on_a_bus, refusals, long_requests, long_replies, many_reads, two_routines, largest_setup, any_key, log_faults, a_million_events]
     for group in [*groups, replays, config_faults, read_while_written]:
         group()
     return told.ended()
