@@ -9,7 +9,11 @@ from dataclasses import dataclass, field
 sys.path.append(os.path.join(os.path.dirname(os.path.abspath(__file__)), "..", "..", "python"))
 from uds_names import IN_SESSION, SERVICES
 from uds_rules import rows_of, times_of
-from uds_unit import toml
+
+try:
+    from uds_unit import toml
+except ModuleNotFoundError:
+    sys.exit("view: the package uds_unit isn't here: this tool takes it from the folder python/ beside tools/, or installed (pip install ./python)")
 
 REPLY_LINE = re.compile(
     r"\((\d{10,})\.(\d{3})000\) (\S+) ([0-9A-F]{3}|[0-9A-F]{8})(?:#((?:[0-9A-F]{2}){0,8})|##[0-9A-F]((?:[0-9A-F]{2}){0,64}))"
