@@ -136,6 +136,9 @@ def is_heard(name, files, prints):
         how = {"cwd": room, "capture_output": True, "text": True, "timeout": 120}
         ran = subprocess.run([PROGRAM, "--quiet", "bus", "setup", "a"], **how)
         told(ran.returncode == 0 and frames_of(ran.stdout) == frames, f"{name}: bus", ran)
+        # B answers a functional request as A does, and nothing else
+        others = [it for it in ran.stdout.splitlines() if it not in frames]
+        told(all(it.replace(" B 7E9#", " A 7E8#") in frames for it in others) and (not others or "7DF#" in files[1]), f"{name}: bus, B", others)
         longer = frames_of(subprocess.run([PROGRAM, "--quiet", "bus", "setup", "longer"], **how).stdout)
         with open(f"{room}/a") as it:
             # (a file comes in one piece, so between its lines no time passes but what they say)
@@ -348,6 +351,8 @@ def any_key():
     journal = "".join(f"1 P {one} {other}\n" for one, other in asked)
     for job in ("serial", "play"):
         check("any-key", [job, "--journal"], [setup, log(lines), ""], f"diag-journal 1\n{journal}")
+    singles = (f"{len(it) // 2:02X}{it}".ljust(16, "C") for _, it in asked)
+    is_heard("any-key", [setup, log(lines)], "".join(f"{STAMP.split(maxsplit=1)[0]} A 7E8#{it}\n" for it in singles))
 
 
 def a_million_events():
