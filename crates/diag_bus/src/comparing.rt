@@ -111,7 +111,9 @@ impl Comparison {
         ensures { OnOk result ((bytes : List ℕ) → decode_of digits.now ≡ Ok bytes
             → Records self.old self.new (shown line bytes)) }
     {
-        self.record(line, FdBytes::of_digits(digits).as_slice())
+        let mut bytes = FdBytes::new();
+        bytes.set_digits(digits);
+        self.record(line, bytes.as_slice())
     }
 
     /// The same of a frame of these bytes. One that the server has sent is looked at where it lies, and kept no longer.

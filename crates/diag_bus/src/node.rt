@@ -228,7 +228,8 @@ impl Node {
             → Passed S.took (StaysFor S.is_for S.aim) self.old sink.old self.new sink.new 0
             (given setup.now id (length setup.now.testers) owner bytes) result }
     {
-        let bytes = FdBytes::of_digits(digits);
+        let mut bytes = FdBytes::new();
+        bytes.set_digits(digits);
         self.give_bytes(
             setup,
             ids,

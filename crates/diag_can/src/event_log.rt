@@ -181,7 +181,9 @@ impl Log {
         ensures { OnOk result ((bytes : List ℕ) → decode_of digits.now ≡ Ok bytes
             → self.new.items ≡ self.old.items ++ addressed addressing bytes ∷ []) }
     {
-        self.add_long(addressing, FdBytes::of_digits(digits).as_slice())
+        let mut bytes = FdBytes::new();
+        bytes.set_digits(digits);
+        self.add_long(addressing, bytes.as_slice())
     }
 
     /// The same of these bytes.

@@ -66,6 +66,14 @@ impl FdBytes {
         }
     }
 
+    /// Takes all bytes out.
+    #[inline]
+    pub fn clear(&mut self)
+        ensures { self.new ≡ [] }
+    {
+        self.len = 0;
+    }
+
     /// Adds one byte at the end.
     pub fn push(&mut self, byte: u8)
         requires { length self.old < 64 }

@@ -81,7 +81,9 @@ impl<'a> FrameText<'a> {
     pub fn long_bytes(&self) -> FdBytes
         ensures { result ≡ self.now.bytes }
     {
-        FdBytes::of_digits(self.digits())
+        let mut bytes = FdBytes::new();
+        bytes.set_digits(self.digits());
+        bytes
     }
 
     /// The digits of its data, which a call may be lent in place of the frame: what a call borrows lies in memory.
@@ -119,26 +121,25 @@ fn eight_of_few(text: &[u8]) -> u64
 }
 
 impl FdBytes {
-    /// The bytes that hex digits write, up to 64: those of sixteen digits are looked at together, and so are those of the digits
-    /// that are left.
+    /// Becomes the bytes that hex digits write, up to 64: those of sixteen digits are looked at together, and so are those of the
+    /// digits that are left. (In its place, for what is written by eight bytes is slow to move by sixteen.)
     #[cold]
     #[inline(never)]
-    pub fn of_digits(digits: &[u8]) -> FdBytes
+    pub fn set_digits(&mut self, digits: &[u8])
         requires hex { IsOk (decode_of digits.now) }
         requires few { length digits.now ≤ 128 }
-        ensures { decode_of digits.now ≡ Ok result }
+        ensures { decode_of digits.now ≡ Ok self.new }
     {
-        let mut bytes = FdBytes::new();
+        self.clear();
         let mut rest = digits;
         while let Some((sixteen, tail)) = rest.split_first_chunk::<16>() {
-            bytes.append(&eight_of_digits(sixteen));
+            self.append(&eight_of_digits(sixteen));
             rest = tail;
         }
         if rest.is_empty() {
-            return bytes;
+            return;
         }
         let last = FrameBytes::last_of(last_eight(rest), rest.len() / 2);
-        bytes.append(last.as_slice());
-        bytes
+        self.append(last.as_slice());
     }
 }

@@ -1,4 +1,5 @@
-//! The frames of a message where they may have up to 64 bytes (CAN FD; ISO 15765-2:2016, 9.2, 9.3 and 9.6).
+//! The frames of a message where they may have up to 64 bytes (CAN FD; ISO 15765-2:2016, 9.2, 9.3 and 9.6), each made in its
+//! place.
 
 ghost use Rattle.std.specs.Prelude.{◌≡◌, ◌≤◌, ◌<◌, Some, length, slice_get};
 ghost use Rattle.diag_pdu.specs.Cut.{head_size, filled, single_bytes, first_bytes, consecutive_bytes, part_of, cut, frames_of};
@@ -21,27 +22,26 @@ fn fill(frame: &mut FdBytes, framing: &Framing)
     }
 }
 
-/// The SingleFrame (9.6.2) of a message of at most 62 bytes, not filled: above 7 bytes the length stands in byte 1.
-fn long_single(message: &[u8]) -> FdBytes
+/// Makes the SingleFrame (9.6.2) of a message of at most 62 bytes, not filled: above 7 bytes the length stands in byte 1.
+fn put_single(frame: &mut FdBytes, message: &[u8])
     requires { length message.now ≤ 62 }
-    ensures { result ≡ single_bytes message.now }
+    ensures { frame.new ≡ single_bytes message.now }
 {
-    let mut frame = FdBytes::new();
+    frame.clear();
     if message.len() > 7 {
         frame.push(0);
     }
     frame.push(message.len() as u8);
     frame.append(message);
-    frame
 }
 
-/// The FirstFrame (9.6.3) of a message of that length, which `head` begins.
-fn long_first(tx_dl: DataLength, len: u16, head: &[u8]) -> FdBytes
+/// Makes the FirstFrame (9.6.3) of a message of that length, which `head` begins.
+fn put_first(frame: &mut FdBytes, tx_dl: DataLength, len: u16, head: &[u8])
     requires { length head.now ≡ head_size tx_dl len }
-    ensures { result ≡ first_bytes len head.now }
+    ensures { frame.new ≡ first_bytes len head.now }
 {
     let [high, low] = len.to_be_bytes();
-    let mut frame = FdBytes::new();
+    frame.clear();
     if len <= 4095 {
         frame.push(0x10 + high);
         frame.push(low);
@@ -49,7 +49,6 @@ fn long_first(tx_dl: DataLength, len: u16, head: &[u8]) -> FdBytes
         frame.append(&[0x10, 0, 0, 0, high, low]);
     }
     frame.append(head);
-    frame
 }
 
 /// The part of the message that the `i`-th ConsecutiveFrame carries, from 1.
@@ -64,41 +63,44 @@ fn long_part(tx_dl: DataLength, message: &[u8], i: u16) -> &[u8]
     &rest[..rest.len().min(usize::from(tx_dl.in_bytes()) - 1)]
 }
 
-/// The `i`-th ConsecutiveFrame (9.6.4) of a message, from 1.
-fn long_consecutive(i: u16, part: &[u8]) -> FdBytes
+/// Makes the `i`-th ConsecutiveFrame (9.6.4) of a message, from 1.
+fn put_consecutive(frame: &mut FdBytes, i: u16, part: &[u8])
     requires { length part.now ≤ 63 }
-    ensures { result ≡ consecutive_bytes i part.now }
+    ensures { frame.new ≡ consecutive_bytes i part.now }
 {
-    let mut frame = FdBytes::new();
+    frame.clear();
     frame.push(0x20 + (i % 16) as u8);
     frame.append(part);
-    frame
 }
 
-/// The `k`-th frame of a message, from 0, not filled. The message has one.
+/// Makes the `k`-th frame of a message, from 0, not filled. The message has one.
 #[tactic(auto, using(crate::proofs::CutFrames::cut_single_at, crate::proofs::CutFrames::cut_first_at, crate::proofs::CutFrames::cut_part_at))]
-fn long_frame(message: &[u8], k: u16, framing: &Framing) -> FdBytes
+fn put_frame(frame: &mut FdBytes, message: &[u8], k: u16, framing: &Framing)
     requires fits { length message.now ≤ 65535 }
     requires inside { k < frames_of framing.now.tx_dl message.now }
-    ensures { slice_get (cut framing.now message.now) k ≡ Some (filled framing.now result) }
+    ensures { slice_get (cut framing.now message.now) k ≡ Some (filled framing.now frame.new) }
 {
     let tx_dl = framing.tx_dl;
     let len = message.len() as u16;
     if len <= single_most(tx_dl) {
-        long_single(message)
+        put_single(frame, message);
     } else if k == 0 {
-        long_first(tx_dl, len, &message[..usize::from(head_size(tx_dl, len))])
+        put_first(
+            frame,
+            tx_dl,
+            len,
+            &message[..usize::from(head_size(tx_dl, len))],
+        );
     } else {
-        long_consecutive(k, long_part(tx_dl, message, k))
+        put_consecutive(frame, k, long_part(tx_dl, message, k));
     }
 }
 
-/// The `k`-th frame of the message, from 0, of whatever length. The message has one.
-pub fn long_frame_at(message: &Message, k: u16, framing: &Framing) -> FdBytes
+/// Makes the `k`-th frame of the message, from 0, of whatever length. The message has one.
+pub fn put_frame_at(frame: &mut FdBytes, message: &Message, k: u16, framing: &Framing)
     requires { k < frames_of framing.now.tx_dl message.now }
-    ensures { slice_get (cut framing.now message.now) k ≡ Some result }
+    ensures { slice_get (cut framing.now message.now) k ≡ Some frame.new }
 {
-    let mut frame = long_frame(message.bytes(), k, framing);
-    fill(&mut frame, framing);
-    frame
+    put_frame(frame, message.bytes(), k, framing);
+    fill(frame, framing);
 }

@@ -103,8 +103,8 @@ fn send_long_frames(link: &mut Link, out: &mut SentFrames)
     ensures reply_rooms { link.old.reply_room ≤ link.new.reply_room }
 {
     let at = link.now();
-    while let Some(frame) = link.next_long_frame() {
-        out.push_long(at, frame);
+    while !link.is_drained() {
+        out.take_next(at, link);
     }
 }
 

@@ -446,8 +446,8 @@ impl Receiver {
         ensures partial { self.new.partial ≡ Some (begun_receiving len rx_dl head.now) }
         ensures memory { IfSome self.old.partial (λ p. 8 < p.len → p.len ≤ self.new.room) }
     {
-        add_head(&mut self.spare, head);
-        let bytes = mem::replace(&mut self.spare, Vec::new(self.alloc));
+        let mut bytes = mem::replace(&mut self.spare, Vec::new(self.alloc));
+        add_head(&mut bytes, head);
         self.end();
         self.partial = Some(Receiving {
             held: PartialBytes::Growing(bytes),

@@ -29,7 +29,7 @@ ghost use Rattle.diag_sides.specs.Sender.{fields_left, IsSound, settled_in, repl
 
 use crate::queue::Queue;
 use crate::sending::{Phase, Sending};
-use diag_pdu::{Framing, LinkSetup, MakeFrame, Message};
+use diag_pdu::{FramePlace, Framing, LinkSetup, Message};
 use std::alloc::{AllocError, Global};
 use std::marker::Model;
 
@@ -162,35 +162,37 @@ impl Sender {
         }
     }
 
-    /// The next frame that is due.
+    /// The next frame that is due, made in this place.
     #[tactic(auto, using(crate::proofs::Settled::settled_next, crate::proofs::Settled::drained_fields, crate::proofs::Settled::fields_drained))]
-    pub fn next_frame<F: MakeFrame>(&mut self, setup: &LinkSetup) -> Option<F>
+    pub fn next_frame<P: FramePlace>(&mut self, setup: &LinkSetup, place: &mut P) -> Option<P::Made>
         requires framing { setup.now.framing ≡ self.old.framing }
-        requires fits { F.is_for setup.now.framing }
+        requires fits { P.is_for setup.now.framing }
         ensures some { IfSome result (λ frame.
             settled_in setup.now self.old.current self.old.waiting
-            ≡ before_these (F.bytes frame ∷ [])
+            ≡ before_these (P.bytes place.new frame ∷ [])
             (settled_in setup.now self.new.current self.new.waiting)) }
         ensures none { IsNone result
             ↔ ((settled_in setup.now self.old.current self.old.waiting).due ≡ []) }
         ensures same { IfNone result (self.new ≡ self.old) }
+        ensures place { IfNone result (place.new ≡ place.old) }
         ensures room { self.old.room ≤ self.new.room }
         ensures framing { self.new.framing ≡ self.old.framing }
     {
-        self.take_frame(setup)
+        self.take_frame(setup, place)
     }
 
     /// The next frame that is due, field by field.
-    fn take_frame<F: MakeFrame>(&mut self, setup: &LinkSetup) -> Option<F>
+    fn take_frame<P: FramePlace>(&mut self, setup: &LinkSetup, place: &mut P) -> Option<P::Made>
         requires framing { setup.now.framing ≡ self.old.framing }
-        requires fits { F.is_for setup.now.framing }
+        requires fits { P.is_for setup.now.framing }
         ensures sound { IfSome self.old.current (λ c. IsSound setup.now.framing.tx_dl c) }
         ensures some { IfSome result (λ frame.
-            IsNextFrame setup.now self.old self.new (F.bytes frame)) }
+            IsNextFrame setup.now self.old self.new (P.bytes place.new frame)) }
         ensures none { IsNone result
             ↔ (IfSome self.old.current (λ c. c.due ≡ 0)
             × (self.old.current ≡ None → self.old.waiting ≡ [])) }
         ensures same { IfNone result (self.new ≡ self.old) }
+        ensures place { IfNone result (place.new ≡ place.old) }
         ensures room { self.old.room ≤ self.new.room }
         ensures framing { self.new.framing ≡ self.old.framing }
     {
@@ -200,18 +202,19 @@ impl Sender {
             };
             self.current = Some(Sending::begun(setup, message));
         }
-        self.current_frame(setup)
+        self.current_frame(setup, place)
     }
 
     /// The next frame of the current message, if one is due.
-    fn current_frame<F: MakeFrame>(&mut self, setup: &LinkSetup) -> Option<F>
+    fn current_frame<P: FramePlace>(&mut self, setup: &LinkSetup, place: &mut P) -> Option<P::Made>
         requires framing { setup.now.framing ≡ self.old.framing }
-        requires fits { F.is_for setup.now.framing }
+        requires fits { P.is_for setup.now.framing }
         ensures sound { IfSome self.old.current (λ c. IsSound setup.now.framing.tx_dl c) }
         ensures some { IfSome result (λ frame. IfSome self.old.current (λ c.
-            goes_on_from setup.now c self.old.waiting self.new (F.bytes frame))) }
+            goes_on_from setup.now c self.old.waiting self.new (P.bytes place.new frame))) }
         ensures none { IsNone result ↔ IfSome self.old.current (λ c. c.due ≡ 0) }
         ensures same { IfNone result (self.new ≡ self.old) }
+        ensures place { IfNone result (place.new ≡ place.old) }
         ensures found { IfSome result (λ _. IsSome self.old.current) }
         ensures room { self.new.room ≡ self.old.room }
         ensures framing { self.new.framing ≡ self.old.framing }
@@ -220,8 +223,8 @@ impl Sender {
         if sending.due == 0 {
             return None;
         }
-        let frame = F::frame_at(&sending.message, sending.next, &setup.framing);
-        if !sending.go(F::tx_dl(&setup.framing)) {
+        let frame = place.put(&sending.message, sending.next, &setup.framing);
+        if !sending.go(P::tx_dl(&setup.framing)) {
             self.end();
         }
         Some(frame)

@@ -17,18 +17,19 @@ ghost use Rattle.diag_tp.specs.Link.{is_frame, last_tick, needed, asked_of, part
 use crate::link::Link;
 use crate::taken::Taken;
 use diag_can::{EventKind, FrameBytes, LentBytes, LentEvent};
-use diag_pdu::{MakeFrame, Message, Pci, Request, lone_frame};
+use diag_pdu::{FramePlace, Message, Pci, Request, lone_frame};
 use std::alloc::AllocError;
 
 impl Link {
-    /// The bytes of the next frame: flow control goes first.
+    /// The bytes of the next frame, made in this place: flow control goes first.
     #[inline(always)]
-    pub(crate) fn next_bytes<F: MakeFrame>(&mut self) -> Option<F>
-        requires fits { F.is_for self.old.state.setup.framing }
+    pub(crate) fn next_bytes<P: FramePlace>(&mut self, place: &mut P) -> Option<P::Made>
+        requires fits { P.is_for self.old.state.setup.framing }
         ensures some { IfSome result (λ frame.
-            due self.old.state ≡ F.bytes frame ∷ due self.new.state) }
+            due self.old.state ≡ P.bytes place.new frame ∷ due self.new.state) }
         ensures none { IsNone result ↔ (due self.old.state ≡ []) }
         ensures same { IfNone result (self.new ≡ self.old) }
+        ensures place { IfNone result (place.new ≡ place.old) }
         ensures left { (settled self.new.state.setup self.new.state.sender).left
             ≡ (settled self.old.state.setup self.old.state.sender).left }
         ensures partial { self.new.state.partial ≡ self.old.state.partial }
@@ -39,9 +40,9 @@ impl Link {
     {
         if self.grant.is_some() {
             let grant = self.grant.take()?;
-            return Some(F::of_short(grant));
+            return Some(place.put_short(grant));
         }
-        self.sender.next_frame(&self.setup)
+        self.sender.next_frame(&self.setup, place)
     }
 
     /// The bytes of a reply's frame, where it has a single one and nothing else is to be sent.

@@ -2,21 +2,14 @@
 
 ghost use Rattle.std.specs.Prelude.{◌≡◌, ◌<◌, ◌≤◌, ◌+◌, ◌++◌, [], ◌∷◌, length, slice_get, Some, OnOk, IfOk, IsTrue, ◌↔◌, ◌^◌, vec_len, vec_capacity};
 ghost use Rattle.diag_tp.specs.declared.sent.Sent.{Sent as ASent};
-ghost use Rattle.diag_tp.specs.SentFrames.{HasRoom};
+ghost use Rattle.diag_tp.specs.Link.{pending, unsent};
+ghost use Rattle.diag_tp.specs.SentFrames.{HandsOn, HasRoom};
 
+use crate::link::Link;
 use diag_can::{CanId, FdBytes, Frame, FrameBytes};
 use diag_pdu::DataLength;
 use std::alloc::{AllocError, Global};
 use std::marker::Model;
-
-/// A frame of either kind, on its identifier.
-#[derive(Drop)]
-pub struct FdFrame {
-    /// Its identifier.
-    pub id: CanId,
-    /// Its data, up to 64 bytes.
-    pub bytes: FdBytes,
-}
 
 /// A classic frame, and the time in ticks at which it goes. Each field is written as one word, and nothing is between them.
 #[derive(Drop)]
@@ -53,7 +46,8 @@ impl ShortSent {
 #[derive(Drop)]
 struct LongSent {
     at: u64,
-    frame: FdFrame,
+    id: CanId,
+    bytes: FdBytes,
 }
 
 impl Model for LongSent {
@@ -61,7 +55,7 @@ impl Model for LongSent {
 
     ghost Value = { ASent };
 
-    ghost view = { λ s. record { at = s.at; frame = record { id = s.frame.id; bytes = s.frame.bytes } } };
+    ghost view = { λ s. record { at = s.at; frame = record { id = s.id; bytes = s.bytes } } };
 }
 
 /// Frames of up to 8 bytes, or of up to 64.
@@ -148,18 +142,24 @@ impl SentFrames {
         }
     }
 
-    /// Adds a frame of either kind, which goes at this time.
+    /// Takes the next frame that is due of a link that sends frames of any length, which goes at this time. It is made where it
+    /// stays.
     #[inline(never)]
-    pub fn push_long(&mut self, at: u64, frame: FdFrame)
-        requires { 0 < self.old.long_room }
-        ensures items { self.new.items ≡ self.old.items
-            ++ record { at = at; frame = record { id = frame.id; bytes = frame.bytes } } ∷ [] }
+    pub fn take_next(&mut self, at: u64, link: &mut Link)
+        requires room { 0 < self.old.long_room }
+        requires due { 0 < pending link.old.state }
+        ensures next { HandsOn at link.old.state link.new.state self.old.items self.new.items }
         ensures room { self.old.room ≡ self.new.room + 1 }
         ensures long_room { self.old.long_room ≡ self.new.long_room + 1 }
+        ensures fewer { (pending link.old.state ≡ pending link.new.state + 1)
+            × (unsent link.old.state ≡ unsent link.new.state + 1) }
+        ensures reply_rooms { link.old.reply_room ≤ link.new.reply_room }
+        ensures time { link.new.state.now ≡ link.old.state.now }
+        ensures setup { link.new.state.setup ≡ link.old.state.setup }
     {
         match &mut self.list {
             FrameList::Short(_) => unreachable!(),
-            FrameList::Long(list) => list.push_reserved(LongSent { at, frame }),
+            FrameList::Long(list) => push_next(list, at, link),
         }
     }
 
@@ -217,8 +217,8 @@ impl SentFrames {
                 let sent = &list[index];
                 SentFrame {
                     at: sent.at,
-                    id: sent.frame.id,
-                    bytes: sent.frame.bytes.as_slice(),
+                    id: sent.id,
+                    bytes: sent.bytes.as_slice(),
                 }
             }
         }
@@ -259,11 +259,32 @@ fn push_lengthened(list: &mut Vec<LongSent>, at: u64, id: CanId, bytes: FrameByt
 {
     list.push_reserved(LongSent {
         at,
-        frame: FdFrame {
-            id,
-            bytes: FdBytes::of_short(&bytes),
-        },
+        id,
+        bytes: FdBytes::of_short(&bytes),
     });
+}
+
+/// Adds the next frame that is due of a link, which goes at this time.
+#[inline(always)]
+fn push_next(list: &mut Vec<LongSent>, at: u64, link: &mut Link)
+    requires room { vec_len list.old < vec_capacity list.old }
+    requires due { 0 < pending link.old.state }
+    ensures next { HandsOn at link.old.state link.new.state list.old.items list.new.items }
+    ensures len { vec_len list.new ≡ vec_len list.old + 1 }
+    ensures capacity { vec_capacity list.new ≡ vec_capacity list.old }
+    ensures fewer { (pending link.old.state ≡ pending link.new.state + 1)
+        × (unsent link.old.state ≡ unsent link.new.state + 1) }
+    ensures reply_rooms { link.old.reply_room ≤ link.new.reply_room }
+    ensures time { link.new.state.now ≡ link.old.state.now }
+    ensures setup { link.new.state.setup ≡ link.old.state.setup }
+{
+    let index = list.len();
+    list.push_reserved(LongSent {
+        at,
+        id: link.setup.ids.response,
+        bytes: FdBytes::new(),
+    });
+    let _id = link.next_long_frame(&mut list[index].bytes);
 }
 
 /// These frames where longer ones have room, too, and room for so many more.
@@ -277,10 +298,8 @@ fn lengthened(list: &[ShortSent], alloc: Global, count: usize) -> Result<Vec<Lon
     for sent in list {
         longer.push_reserved(LongSent {
             at: sent.at,
-            frame: FdFrame {
-                id: sent.id,
-                bytes: FdBytes::from_slice(sent.as_slice()),
-            },
+            id: sent.id,
+            bytes: FdBytes::from_slice(sent.as_slice()),
         });
     }
     Ok(longer)

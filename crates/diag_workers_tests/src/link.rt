@@ -5,7 +5,7 @@ ghost use Rattle.std.specs.Prelude.{◌≡◌, IfOk, IsTrue, OnOk};
 ghost use Rattle.diag_tp.specs.Link.{is_frame, pending};
 
 use crate::trouble::{Trouble, holds};
-use diag_can::{FrameBytes, LentBytes, LentEvent};
+use diag_can::{FdBytes, FrameBytes, LentBytes, LentEvent};
 use diag_pdu::{Framing, LinkSetup, Message, Pci, Request, frame_of};
 use diag_setup::Setup;
 use diag_stored::two_testers;
@@ -70,7 +70,8 @@ fn reads(alloc: Global, link: &mut Link, event: &LentEvent<'_>) -> Result<bool, 
 fn drain(link: &mut Link)
     ensures { pending link.new.state ≡ 0 }
 {
-    while let Some(_frame) = link.next_long_frame() {}
+    let mut bytes = FdBytes::new();
+    while let Some(_id) = link.next_long_frame(&mut bytes) {}
 }
 
 /// The read, and the frames that are due then.

@@ -6,24 +6,25 @@ ghost use Rattle.diag_tp.specs.Link.{is_frame, pending, quiet};
 use crate::ecu::opened as opened_ecu;
 use crate::link::opened as opened_link;
 use crate::trouble::{Trouble, holds};
-use diag_can::{FrameBytes, LentBytes, LentEvent, TickCount};
+use diag_can::{CanId, FdBytes, FrameBytes, LentBytes, LentEvent, TickCount};
 use diag_ecu::Ecu;
 use diag_pdu::{Message, Request};
 use diag_setup::TesterId;
-use diag_tp::{FdFrame, Link};
+use diag_tp::Link;
 use std::alloc::{AllocError, Global};
 
 /// What puts frames on the bus.
 trait Driver {
-    fn send(&mut self, frame: FdFrame);
+    fn send(&mut self, id: CanId, bytes: &FdBytes);
 }
 
 /// Sends the frames that are due.
 fn send_due<D: Driver>(link: &mut Link, driver: &mut D)
     ensures { pending link.new.state ≡ 0 }
 {
-    while let Some(frame) = link.next_long_frame() {
-        driver.send(frame);
+    let mut bytes = FdBytes::new();
+    while let Some(id) = link.next_long_frame(&mut bytes) {
+        driver.send(id, &bytes);
     }
 }
 
@@ -75,16 +76,24 @@ fn pass<D: Driver>(link: &mut Link, ecu: &mut Ecu, who: TesterId, count: TickCou
     send_due(link, driver);
 }
 
+/// A frame that was sent.
+#[derive(Drop)]
+struct Kept {
+    id: CanId,
+    bytes: FdBytes,
+}
+
 /// Keeps the frames that are sent, unless memory is refused.
 #[derive(Drop)]
 struct Recorder {
-    frames: Vec<FdFrame>,
+    frames: Vec<Kept>,
     is_refused: bool,
 }
 
 impl Driver for Recorder {
-    fn send(&mut self, frame: FdFrame) {
-        if self.frames.push(frame).is_err() {
+    fn send(&mut self, id: CanId, bytes: &FdBytes) {
+        let bytes = bytes.copy();
+        if self.frames.push(Kept { id, bytes }).is_err() {
             self.is_refused = true;
         }
     }
@@ -101,7 +110,7 @@ impl Recorder {
 }
 
 /// Whether these frames were sent, with the first tester's identifier.
-fn are_sent(sent: &[FdFrame], frames: &[&[u8]]) -> bool {
+fn are_sent(sent: &[Kept], frames: &[&[u8]]) -> bool {
     for (sent, bytes) in sent.iter().zip(frames) {
         if sent.id.get() != 0x7E8 || sent.bytes.as_slice() != *bytes {
             return false;

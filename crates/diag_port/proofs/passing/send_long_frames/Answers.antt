@@ -1,20 +1,11 @@
-use Rattle.std.proofs.Common.{◌≡◌, ◌<◌, ◌≤◌, ◌+◌, is_some, Option, None, refl, subst, sym, ap, ◌∙◌, arith}
-use Rattle.std.specs.Prelude.{IsNone}
-use Rattle.diag_can.specs.declared.frame.Frame.{Frame}
+use Rattle.std.proofs.Common.{◌<◌, ◌≤◌, ◌+◌, refl, subst, sym, ◌∙◌, arith}
 use Rattle.diag_pdu.specs.Length.{in_bytes}
-use Rattle.diag_tp.specs.declared.sent_frames.FdFrame.{FdFrame}
-use Rattle.diag_tp.specs.State.{LinkView}
-use Rattle.diag_port.specs.Port.{Grew, KeepsFrameRoom, SentDue}
 use Rattle.diag_port.proofs.Handing.{handed_all, handed_none, handed_one}
 use Rattle.diag_port.proofs.Rooms.{room_taken}
-use Rattle.diag_port.proofs.Within.{none_of}
 use Rattle.diag_port.proofs.passing.send_long_frames.Goals as goal
 
-abbrev frame_of : FdFrame → Frame
-frame_of frame = record { id = frame.id; bytes = frame.bytes }
-
-pub loop-frame-init : goal.loop-frame-init
-loop-frame-init c = record {
+pub loop-out-init : goal.loop-out-init
+loop-out-init c = record {
   long = c.requires.long;
   room = c.requires.room;
   grew = handed_none c.args.link.now.state c.now-at.result c.args.out.now.items c.now-at.ensures.time;
@@ -24,40 +15,30 @@ loop-frame-init c = record {
   rooms = omega arith;
 }
 
-pub loop-frame-preserved : goal.loop-frame-preserved
-loop-frame-preserved c =
-    let inv = c.loop-frame.invariant in
-    let out = c.loop-frame.out in
-    let pushed = c.push_long.new.self in
-    let old = c.loop-frame.link.state in
-    let new = c.next_long_frame.new.self.state in
-    let set = c.next_long_frame.ensures.setup in
-    let less : out.long_room ≤ pushed.long_room + 1 = omega (arith, c.push_long.ensures.long_room) in
-    let fewer = c.next_long_frame.ensures.fewer (ap (λ o. is_some o) c.in-Some.is) in
+pub loop-out-preserved : goal.loop-out-preserved
+loop-out-preserved c =
+    let inv = c.loop-out.invariant in
+    let out = c.loop-out.out in
+    let pushed = c.take_next.new.self in
+    let old = c.loop-out.link.state in
+    let new = c.take_next.new.link.state in
+    let next = c.take_next.ensures.next in
+    let set = c.take_next.ensures.setup in
+    let less : out.long_room ≤ pushed.long_room + 1 = omega (arith, c.take_next.ensures.long_room) in
+    let fewer = c.take_next.ensures.fewer in
     record {
       long = subst (λ s. 8 < in_bytes s.framing.tx_dl) (sym set) inv.long;
-      room = room_taken old new _ _ out pushed set fewer.0 c.push_long.ensures.room less inv.room;
-      grew = handed_one c.args.link.now.state old new c.now-at.result (frame_of c.in-Some.frame) c.args.out.now.items out.items pushed.items inv.grew
-          c.push_long.ensures.items c.in-Some.ensures.next;
+      room = room_taken old new _ _ out pushed set fewer.0 c.take_next.ensures.room less inv.room;
+      grew = handed_one c.args.link.now.state old new c.now-at.result next.frame c.args.out.now.items out.items pushed.items inv.grew next.grown next.goes;
       now = inv.now;
-      time = c.next_long_frame.ensures.time ∙ inv.time;
+      time = c.take_next.ensures.time ∙ inv.time;
       kept = λ others room.
-          room_taken old new _ _ out pushed set (omega (arith, fewer.1)) c.push_long.ensures.room less (inv.kept others room);
-      rooms = omega (arith, inv.rooms, c.next_long_frame.ensures.reply_rooms);
+          room_taken old new _ _ out pushed set (omega (arith, fewer.1)) c.take_next.ensures.room less (inv.kept others room);
+      rooms = omega (arith, inv.rooms, c.take_next.ensures.reply_rooms);
     }
 
 pub returns-clause-stands : goal.returns-clause-stands
 returns-clause-stands c =
-    let inv = c.loop-frame.invariant in
+    let inv = c.loop-out.invariant in
     let start = c.args.link.now.state in
-    let none : c.next_long_frame.result ≡ None = none_of c.next_long_frame.result c.in_default.not-Some in
-    let same : c.next_long_frame.new.self ≡ c.loop-frame.link = rw none at c.next_long_frame.ensures.same in
-    let is : IsNone c.next_long_frame.result = subst (λ (o : Option FdFrame). IsNone o) (sym none) refl in
-    subst (λ (l : LinkView). Grew c.args.out.now.items c.loop-frame.out.items (SentDue start l.state)) (sym same)
-    (handed_all start c.loop-frame.link.state c.now-at.result _ _ inv.grew inv.now inv.time (λ s E A Q h. (c.next_long_frame.ensures.all s E A Q h).0 is))
-
-pub returns-clause-room : goal.returns-clause-room
-returns-clause-room c =
-    let none : c.next_long_frame.result ≡ None = none_of c.next_long_frame.result c.in_default.not-Some in
-    let same : c.next_long_frame.new.self ≡ c.loop-frame.link = rw none at c.next_long_frame.ensures.same in
-    subst (λ (l : LinkView). KeepsFrameRoom c.args.link.now.state l.state c.args.out.now c.loop-frame.out) (sym same) c.loop-frame.invariant.kept
+    handed_all start c.loop-out.link.state c.now-at.result _ _ inv.grew inv.now inv.time (λ s E A Q h. (c.is_drained.ensures.all s E A Q h).0 c.loop-out-test.false)

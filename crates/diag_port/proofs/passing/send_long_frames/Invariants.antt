@@ -5,8 +5,8 @@ use Rattle.diag_port.specs.Port.{Grew, HasRoomFor, KeepsFrameRoom}
 use Rattle.diag_port.proofs.Handing.{Handed}
 use Rattle.diag_port.proofs.passing.send_long_frames.Given as goal
 
-abbrev pub invariant-loop-frame : goal.invariant-loop-frame
-invariant-loop-frame l = record {
+abbrev pub invariant-loop-out : goal.invariant-loop-out
+invariant-loop-out l = record {
   long : 8 < in_bytes l.link.state.setup.framing.tx_dl;
   room : HasRoomFor l.link.state (pending l.link.state) l.out;
   grew : Grew l.initial.out.items l.out.items (Handed l.initial.link.state l.link.state l.at);
@@ -16,5 +16,5 @@ invariant-loop-frame l = record {
   rooms : l.initial.link.reply_room ≤ l.link.reply_room;
 }
 
-abbrev pub decreases-loop-frame : goal.decreases-loop-frame
-decreases-loop-frame l = pending l.link.state
+abbrev pub decreases-loop-out : goal.decreases-loop-out
+decreases-loop-out l = pending l.link.state

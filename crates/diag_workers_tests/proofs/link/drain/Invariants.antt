@@ -1,5 +1,5 @@
 use Rattle.diag_tp.specs.Link.{pending}
 use Rattle.diag_workers_tests.proofs.link.drain.Given as goal
 
-abbrev pub decreases-loop-frame : goal.decreases-loop-frame
-decreases-loop-frame l = pending l.link.state
+abbrev pub decreases-loop-id : goal.decreases-loop-id
+decreases-loop-id l = pending l.link.state

@@ -6,4 +6,4 @@ use Rattle.diag_bus.proofs.comparing.Comparison.record_long.Goals as goal
 
 pub returns : goal.returns
 returns c = on_ok_weaker c.record.result (λ records bytes is.
-    subst (λ (b : List ℕ). Records c.args.self.now c.record.new.self (shown c.args.line b)) (c.as_slice.ensures.bytes ∙ ap bytes_or_none (sym c.of_digits.ensures ∙ is)) records) c.record.ensures
+    subst (λ (b : List ℕ). Records c.args.self.now c.record.new.self (shown c.args.line b)) (c.as_slice.ensures.bytes ∙ ap bytes_or_none (sym c.set_digits.ensures ∙ is)) records) c.record.ensures

@@ -8,5 +8,5 @@ pub returns : goal.returns
 returns g c = λ bytes is.
     let setup = c.args.setup.now in
     let n = length setup.testers in
-    passed_as _ _ refl (ap (λ (bytes : List ℕ). given setup c.args.id n c.args.owner bytes) (c.long.ensures ∙ c.as_slice.ensures.bytes ∙ ap bytes_or_none (sym c.of_digits-bytes.ensures ∙ is)))
+    passed_as _ _ refl (ap (λ (bytes : List ℕ). given setup c.args.id n c.args.owner bytes) (c.long.ensures ∙ c.as_slice.ensures.bytes ∙ ap bytes_or_none (sym c.set_digits.ensures ∙ is)))
     c.give_bytes.ensures
