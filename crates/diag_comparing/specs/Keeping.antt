@@ -115,11 +115,7 @@ bytes_with id (Some frame) = if frame.id == id then Some frame.bytes else None
 -- the bytes of a frame of the unit's, where it is to this tester
 abbrev pub bytes_to : Option UnitFrame → ℕ → Option (List ℕ)
 bytes_to None who = None
-bytes_to (Some sent) who = if sent.who == who then Some sent.bytes else None
-
--- the one of these bytes to this tester
-abbrev pub sent_to : List ℕ → ℕ → UnitFrame
-sent_to bytes who = record { who = who; bytes = bytes }
+bytes_to (Some sent) who = if sent.who == who then Some sent.frame.now.bytes else None
 
 -- to each tester it is what the line's frame is
 abbrev pub IsUnitFrame : RawSetup → Option Frame → Option UnitFrame → Type 0

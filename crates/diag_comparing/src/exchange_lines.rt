@@ -1,6 +1,6 @@
 //! What is kept of a recording, and the lines of exchanges that are over.
 
-ghost use Rattle.std.specs.Prelude.{◌≡◌, ◌<◌, ◌≤◌, ◌+◌, ◌^◌, ◌∷◌, [], ◌++◌, ℕ, List, length, option_copied, option_map, IfOk, OnOk, OnErr, Ok};
+ghost use Rattle.std.specs.Prelude.{◌≡◌, ◌<◌, ◌≤◌, ◌+◌, ◌^◌, ◌∷◌, [], ◌++◌, ℕ, List, length, option_copied, IfOk, OnOk, OnErr, Ok};
 ghost use Rattle.diag_can.specs.declared.bus_line.BusLine.{BusLine as ABusLine};
 ghost use Rattle.diag_desk.specs.Entries.{asks};
 ghost use Rattle.diag_desk.specs.declared.entry.Entry.{Entry};
@@ -13,13 +13,14 @@ ghost use Rattle.diag_bus.specs.Text.{ecu_after};
 ghost use Rattle.diag_port.specs.Port.{Grew};
 ghost use Rattle.diag_compare.specs.Hearing.{unit_side};
 ghost use Rattle.diag_comparing.specs.Idle.{AreIdleOutside, HasNoneOutside, IsIdle, IsOutside, IsWider};
-ghost use Rattle.diag_comparing.specs.Keeping.{HasTaken, IsUnitFrame, TakesEach, TakesEnd, bytes_to, sent_to};
+ghost use Rattle.diag_comparing.specs.Keeping.{HasTaken, IsUnitFrame, TakesEach, TakesEnd, bytes_to};
+ghost use Rattle.diag_judge.specs.Judging.{bytes_in};
 
 use crate::range::Range;
 use crate::stamps::Stamps;
 use crate::telling::write_batch;
 use diag_bus::{Clock, ResponseIds};
-use diag_can::{BusLine, FrameText, KeptBytes, TickCount};
+use diag_can::{BusLine, FrameText, TickCount};
 use diag_ecu::Ecu;
 use diag_exchange::{CaptureLine, Spare};
 use diag_expect::Entered;
@@ -71,68 +72,42 @@ fn unit_side(setup: &Setup, who: TesterId) -> LinkSetup
 
 /// A frame of the unit to a tester.
 #[derive(Drop)]
-struct UnitFrame {
+struct UnitFrame<'a, 'b> {
     who: TesterId,
-    bytes: KeptBytes,
+    frame: &'a FrameText<'b>,
 }
 
 /// A line's frame, where it is one of the unit's.
-fn unit_frame(
-    alloc: Global,
+#[inline(always)]
+fn unit_frame<'a, 'b>(
     responses: &ResponseIds,
     setup: &Setup,
-    said: &BusLine,
-) -> Result<Option<UnitFrame>, AllocError>
+    said: &'a BusLine<'b>,
+) -> Option<UnitFrame<'a, 'b>>
     requires { AreResponsesOf setup.now responses.now }
-    ensures { IfOk result (λ sent. IsUnitFrame setup.now (frame_said said.now) sent) }
+    ensures { IsUnitFrame setup.now (frame_said said.now) result }
 {
     match said {
-        BusLine::Empty | BusLine::Ticks(_) => Ok(None),
+        BusLine::Empty | BusLine::Ticks(_) => None,
         BusLine::Stamped { moment: _, frame } => match frame {
-            Some(frame) => sent_to(alloc, responses.responder(setup, frame.id()), frame),
-            None => Ok(None),
+            Some(frame) => match responses.responder(setup, frame.id()) {
+                Some(who) => Some(UnitFrame { who, frame }),
+                None => None,
+            },
+            None => None,
         },
     }
 }
 
-/// A frame, where it is to a tester.
+/// Its text, where it is to this tester.
 #[inline(always)]
-fn sent_to(
-    alloc: Global,
-    responder: Option<TesterId>,
-    frame: &FrameText,
-) -> Result<Option<UnitFrame>, AllocError>
-    ensures { IfOk result (λ sent. sent ≡ option_map (sent_to frame.now.bytes) responder) }
-{
-    match responder {
-        Some(who) => Ok(Some(UnitFrame {
-            who,
-            bytes: kept(alloc, frame)?,
-        })),
-        None => Ok(None),
-    }
-}
-
-/// A frame's bytes, kept.
-#[inline(always)]
-fn kept(alloc: Global, frame: &FrameText) -> Result<KeptBytes, AllocError>
-    ensures { IfOk result (λ bytes. bytes ≡ frame.now.bytes) }
-{
-    if frame.is_long() {
-        return KeptBytes::of(alloc, frame.long_bytes().as_slice());
-    }
-    Ok(KeptBytes::short(frame.bytes()))
-}
-
-/// Its bytes, where it is to this tester.
-#[inline(always)]
-fn bytes_to(sent: Option<&UnitFrame>, who: TesterId) -> Option<&KeptBytes>
-    ensures { option_copied result ≡ bytes_to (option_copied sent.entry) who }
+fn frame_to<'a, 'b>(sent: Option<&UnitFrame<'a, 'b>>, who: TesterId) -> Option<&'a FrameText<'b>>
+    ensures { bytes_in (option_copied result) ≡ bytes_to (option_copied sent.entry) who }
 {
     match sent {
         Some(sent) => {
             if sent.who == who {
-                Some(&sent.bytes)
+                Some(sent.frame)
             } else {
                 None
             }
@@ -149,7 +124,7 @@ fn next(number: u64) -> Result<u64, AllocError>
 }
 
 /// Which testers may have something to take with a line: those that may be busy, and the one that the frame is to.
-fn asked(busy: Range, sent: Option<&UnitFrame>) -> Range
+fn asked(busy: Range, sent: Option<&UnitFrame<'_, '_>>) -> Range
     ensures busy { IsWider busy result }
     ensures sent { HasNoneOutside result (option_copied sent.entry) }
 {
@@ -164,7 +139,7 @@ fn asked(busy: Range, sent: Option<&UnitFrame>) -> Range
 fn take_each(
     testers: &mut Vec<Tester>,
     range: Range,
-    sent: Option<&UnitFrame>,
+    sent: Option<&UnitFrame<'_, '_>>,
     setup: &Setup,
     at: CaptureLine,
     said: &BusLine,
@@ -188,7 +163,7 @@ fn take_each(
     let mut left = Range::none();
     for index in first..end {
         let who = setup.who(index);
-        let frame = bytes_to(sent, who);
+        let frame = frame_to(sent, who);
         testers[index].take_line(setup, who, at, span, frame, judged)?;
         left = left_with(left, index, &testers[index]);
     }
@@ -324,8 +299,7 @@ impl ExchangeLines {
             moment: clock.time,
         };
         give_back(&mut self.batch, &mut self.spare);
-        let alloc = self.spare.alloc();
-        let sent = unit_frame(alloc, &self.responses, setup, said)?;
+        let sent = unit_frame(&self.responses, setup, said);
         self.busy = asked(self.busy, sent.as_ref());
         self.busy = take_each(
             &mut self.testers,

@@ -1,5 +1,5 @@
 -- What is kept of the exchanges that aren't over, and what it stands for.
-use Rattle.std.specs.Prelude.{◌≡◌, ◌≤◌, ℕ, suc, ◌+◌, ◌&&◌, ◌||◌, not, Bool, true, false, if◌then◌else◌, List, length, map, drop, slice_get, Option, Some, None, is_some, IsSomeAnd}
+use Rattle.std.specs.Prelude.{◌≡◌, ◌≤◌, ℕ, suc, ◌+◌, ◌&&◌, ◌||◌, not, Bool, true, false, if◌then◌else◌, List, length, map, drop, slice_get, Option, Some, None, is_some, option_copied, IsSomeAnd}
 use Rattle.std.specs.List.{filter, list_any}
 use Rattle.std.specs.Option.{option_to_list}
 use Rattle.diag_exchange.specs.Asking.{Course, answer, change_last, coming, courses, fits, is_loud, is_pending, is_replaced, replaces}
@@ -10,6 +10,7 @@ use Rattle.diag_exchange.specs.declared.happening.Heard.{Heard}
 use Rattle.diag_exchange.specs.Over.{Over, Exchange}
 use Rattle.diag_exchange.specs.declared.happening.AskedRequest.{AskedRequest}
 use Rattle.diag_exchange.specs.declared.happening.Start.{Start}
+use Rattle.diag_exchange.specs.declared.happening.TakenRequest.{TakenRequest}
 use Rattle.diag_exchange.specs.declared.open.Open.{Open}
 
 -- what is kept of a request and what became of it
@@ -83,6 +84,15 @@ told e = Exchange e.request e.pendings e.answer
 abbrev pub opened : AskedRequest → Open
 opened request =
     record { request = request; pendings = 0; answer = None; hears = false; replaced = false }
+
+-- the request that is lent so, of whose line nothing is said yet, nor of what varies or is ignored
+abbrev pub request_in : TakenRequest → AskedRequest
+request_in lent = record {
+  at = record { number = 0; moment = 0 };
+  functional = lent.functional;
+  bytes = lent.bytes.now;
+  expected = record { reply = option_copied lent.reply; varies = None; own = lent.own; ignored = false };
+}
 
 -- ---- one that is made for a request
 

@@ -53,6 +53,7 @@ fn marks(varies: Option<&Message>) -> &[u8]
 
 impl Expected {
     /// Whether a message is the server's reply, but for bytes that vary and the order of records.
+    #[inline(never)]
     fn is_same(&self, alloc: Global, sent: &[u8], reply: &[u8]) -> Result<bool, AllocError>
         ensures { IfOk result (λ same. same ≡ same_reply self.now sent.now reply.now) }
     {

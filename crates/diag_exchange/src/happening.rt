@@ -1,6 +1,7 @@
 //! What happens to a tester, and what comes of it.
 
-ghost use Rattle.std.specs.Prelude.{◌≡◌, option_copied, IfOk};
+ghost use Rattle.std.specs.Prelude.{◌≡◌, option_copied, IfOk, OnOk};
+ghost use Rattle.diag_exchange.specs.Streaming.{request_in};
 ghost use Rattle.diag_exchange.specs.Asking.{first_byte, is_loud, is_pending, replaces, says_pending};
 
 use diag_pdu::Message;
@@ -41,6 +42,25 @@ pub struct AskedRequest {
     /// What the server makes of it.
     pub expected: Expected,
 }
+
+/// A request as the server took it, lent. Nothing is said yet of its line, of bytes that vary, or whether it is ignored.
+#[derive(Drop)]
+pub struct TakenRequest<'a> {
+    /// Whether it came to all units.
+    pub functional: bool,
+    /// Its bytes.
+    pub bytes: &'a Message,
+    /// The reply, where there is one.
+    pub reply: Option<&'a Message>,
+    /// Whether the reply is the model's own, and not that of a row.
+    pub own: bool,
+}
+
+/// The line of a request that isn't complete yet.
+const NO_LINE: CaptureLine = CaptureLine {
+    number: 0,
+    moment: 0,
+};
 
 /// The first frame of a message of the unit: a SingleFrame or a FirstFrame.
 #[derive(Clone, Copy, Drop)]
@@ -92,22 +112,57 @@ fn copy_of(alloc: Global, message: Option<&Message>) -> Result<Option<Message>, 
     }
 }
 
-impl Expected {
-    /// Becomes another, part by part.
-    #[inline(always)]
-    pub(crate) fn set(&mut self, other: Expected)
-        ensures { self.new ≡ other }
+/// Becomes a message of the same bytes, where there is one.
+#[inline(always)]
+fn set_copy(place: &mut Option<Message>, message: Option<&Message>) -> Result<(), AllocError>
+    ensures { OnOk result (place.new ≡ option_copied message.entry) }
+{
+    match message {
+        Some(message) => match place {
+            Some(kept) => kept.set_copy(message)?,
+            None => *place = Some(message.try_copy()?),
+        },
+        None => *place = None,
+    }
+    Ok(())
+}
+
+impl<'a> TakenRequest<'a> {
+    /// The request in memory of its own.
+    ///
+    /// # Errors
+    /// `AllocError` where memory is refused.
+    pub(crate) fn try_copy(&self, alloc: Global) -> Result<AskedRequest, AllocError>
+        ensures { IfOk result (λ request. request ≡ request_in self.now) }
     {
-        let Expected {
-            reply,
-            varies,
-            own,
-            ignored,
-        } = other;
-        self.reply = reply;
-        self.varies = varies;
-        self.own = own;
-        self.ignored = ignored;
+        Ok(AskedRequest {
+            at: NO_LINE,
+            functional: self.functional,
+            bytes: self.bytes.try_copy()?,
+            expected: Expected {
+                reply: copy_of(alloc, self.reply)?,
+                varies: None,
+                own: self.own,
+                ignored: false,
+            },
+        })
+    }
+}
+
+impl Expected {
+    /// Becomes that of a request which is lent.
+    #[inline(always)]
+    fn set(&mut self, lent: &TakenRequest<'_>) -> Result<(), AllocError>
+        ensures { OnOk result (self.new ≡ (request_in lent.now).expected) }
+    {
+        set_copy(&mut self.reply, lent.reply)?;
+        // (mostly nothing does, and nothing is written then)
+        if self.varies.is_some() {
+            self.varies = None;
+        }
+        self.own = lent.own;
+        self.ignored = false;
+        Ok(())
     }
 
     /// The same again.
@@ -127,6 +182,20 @@ impl Expected {
 }
 
 impl AskedRequest {
+    /// Becomes a request that is lent, in the memory that it has where that is enough.
+    ///
+    /// # Errors
+    /// `AllocError` where memory is refused; of the request nothing is said then.
+    #[inline(always)]
+    pub(crate) fn set(&mut self, lent: &TakenRequest<'_>) -> Result<(), AllocError>
+        ensures { OnOk result (self.new ≡ request_in lent.now) }
+    {
+        self.at = NO_LINE;
+        self.functional = lent.functional;
+        self.bytes.set_copy(lent.bytes)?;
+        self.expected.set(lent)
+    }
+
     /// The same again.
     ///
     /// # Errors

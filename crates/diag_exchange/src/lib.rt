@@ -12,7 +12,7 @@ mod records;
 mod spare;
 
 pub use exchanges::Exchanges;
-pub use happening::{AskedRequest, CaptureLine, Expected, Happening, Heard, Start};
+pub use happening::{AskedRequest, CaptureLine, Expected, Happening, Heard, Start, TakenRequest};
 pub use laws::{agrees_law, few_law, once_law, over_law};
 pub use open::Open;
 pub use open_box::OpenBox;

@@ -2,9 +2,9 @@
 
 ghost use Rattle.std.specs.Prelude.{◌≡◌, ◌+◌, ◌∷◌, [], option_copied, IfOk, OnOk, OnErr};
 ghost use Rattle.diag_exchange.specs.Asking.{begins_as, begins_as_reply, first_byte, fits, is_positive};
-ghost use Rattle.diag_exchange.specs.Streaming.{asked_again, completed, hearing, hears_no_more, is_candidate, is_done, marked, may_hear, opened, with_message};
+ghost use Rattle.diag_exchange.specs.Streaming.{asked_again, completed, hearing, hears_no_more, is_candidate, is_done, marked, may_hear, opened, request_in, with_message};
 
-use crate::happening::{AskedRequest, CaptureLine, Heard, Start};
+use crate::happening::{AskedRequest, CaptureLine, Heard, Start, TakenRequest};
 use diag_pdu::Message;
 use std::alloc::{AllocError, Global};
 
@@ -77,25 +77,23 @@ impl Open {
         }
     }
 
-    /// Becomes a request of which nothing was heard. (Part by part, so that what was there needn't be moved.)
+    /// Becomes a request that is lent, of which nothing was heard.
+    ///
+    /// # Errors
+    /// `AllocError` where memory is refused; of the exchange nothing is said then.
     #[inline(always)]
-    pub fn set(&mut self, request: AskedRequest)
-        ensures { self.new ≡ opened request }
+    pub fn set(&mut self, lent: &TakenRequest<'_>) -> Result<(), AllocError>
+        ensures { OnOk result (self.new ≡ opened (request_in lent.now)) }
     {
-        let AskedRequest {
-            at,
-            functional,
-            bytes,
-            expected,
-        } = request;
-        self.request.at = at;
-        self.request.functional = functional;
-        self.request.bytes = bytes;
-        self.request.expected.set(expected);
+        self.request.set(lent)?;
         self.pendings = 0;
-        self.answer = None;
+        // (mostly there is none, and nothing is written then)
+        if self.answer.is_some() {
+            self.answer = None;
+        }
         self.hears = false;
         self.replaced = false;
+        Ok(())
     }
 
     /// Its request is complete at a line, and ignored or not.

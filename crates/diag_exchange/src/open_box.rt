@@ -1,9 +1,9 @@
 //! An exchange that isn't over, as it is kept.
 
 ghost use Rattle.std.specs.Prelude.{◌≡◌, IfOk, OnOk, OnErr};
-ghost use Rattle.diag_exchange.specs.Streaming.{asked_again, completed, hearing, hears_no_more, marked, opened, with_message};
+ghost use Rattle.diag_exchange.specs.Streaming.{asked_again, completed, hearing, hears_no_more, marked, opened, request_in, with_message};
 
-use crate::happening::{AskedRequest, CaptureLine, Heard};
+use crate::happening::{AskedRequest, CaptureLine, Heard, TakenRequest};
 use crate::open::Open;
 use diag_pdu::Message;
 use std::alloc::{AllocError, Global};
@@ -39,11 +39,14 @@ impl OpenBox {
     }
 
     /// As `Open::set`.
+    ///
+    /// # Errors
+    /// As there.
     #[inline(always)]
-    pub fn set(&mut self, request: AskedRequest)
-        ensures { self.new ≡ opened request }
+    pub fn set(&mut self, lent: &TakenRequest<'_>) -> Result<(), AllocError>
+        ensures { OnOk result (self.new ≡ opened (request_in lent.now)) }
     {
-        self.open.set(request);
+        self.open.set(lent)
     }
 
     /// The same again.

@@ -1,9 +1,9 @@
 //! Boxes of exchanges that are over.
 
 ghost use Rattle.std.specs.Prelude.{◌≡◌, IfOk};
-ghost use Rattle.diag_exchange.specs.Streaming.{opened};
+ghost use Rattle.diag_exchange.specs.Streaming.{opened, request_in};
 
-use crate::happening::AskedRequest;
+use crate::happening::TakenRequest;
 use crate::open_box::OpenBox;
 use crate::over::Over;
 use std::alloc::{AllocError, Global};
@@ -34,15 +34,15 @@ impl Spare {
     /// # Errors
     /// `AllocError` where memory is refused.
     #[inline(always)]
-    pub fn open(&mut self, request: AskedRequest) -> Result<OpenBox, AllocError>
-        ensures { IfOk result (λ own. own ≡ opened request) }
+    pub fn open(&mut self, lent: &TakenRequest<'_>) -> Result<OpenBox, AllocError>
+        ensures { IfOk result (λ own. own ≡ opened (request_in lent.now)) }
     {
         match self.boxes.pop() {
             Some(mut own) => {
-                own.set(request);
+                own.set(lent)?;
                 Ok(own)
             }
-            None => OpenBox::new(self.alloc(), request),
+            None => OpenBox::new(self.alloc(), lent.try_copy(self.alloc())?),
         }
     }
 

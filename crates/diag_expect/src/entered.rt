@@ -6,7 +6,7 @@ ghost use Rattle.diag_expect.specs.Expecting.{asked_at, entered_of};
 
 use crate::expecting::{is_ignored, own_marks, template_marks};
 use diag_ecu::Ecu;
-use diag_exchange::{AskedRequest, CaptureLine, Expected, OpenBox, Spare};
+use diag_exchange::{CaptureLine, OpenBox, Spare, TakenRequest};
 use diag_pdu::{Message, Request};
 use diag_setup::{Setup, TesterId};
 use std::alloc::{AllocError, Global};
@@ -28,12 +28,6 @@ impl Model for Entered {
     ghost invariant = { λ e. IsKept e.kept };
 }
 
-/// The line of a request that isn't complete yet.
-const NO_LINE: CaptureLine = CaptureLine {
-    number: 0,
-    moment: 0,
-};
-
 impl Entered {
     /// A request of a tester with its reply, by the ECU before it. It goes into a spare box, where there is one.
     ///
@@ -51,18 +45,11 @@ impl Entered {
             ≡ entered_of ecu.now who request.now (option_copied reply.entry)) }
     {
         let items = ecu.template_for(who, request.message.bytes());
-        let bytes = request.message.try_copy()?;
-        let reply = copy_of(reply)?;
-        let mut kept = spare.open(AskedRequest {
-            at: NO_LINE,
+        let mut kept = spare.open(&TakenRequest {
             functional: request.functional,
-            bytes,
-            expected: Expected {
-                reply,
-                varies: None,
-                own: items.is_none(),
-                ignored: false,
-            },
+            bytes: &request.message,
+            reply,
+            own: items.is_none(),
         })?;
         if let Some(items) = items {
             kept.mark(template_marks(spare.alloc(), items)?);
@@ -88,7 +75,11 @@ impl Entered {
         own.complete(at, ignored);
         let request = &own.get().request;
         match &request.expected.reply {
-            None => own.mark(None),
+            None => {
+                if request.expected.varies.is_some() {
+                    own.mark(None);
+                }
+            }
             Some(reply) => {
                 if request.expected.own {
                     let marks = own_marks(alloc, setup, request.bytes.bytes(), reply.bytes())?;
@@ -97,15 +88,5 @@ impl Entered {
             }
         }
         Ok(own)
-    }
-}
-
-#[inline(always)]
-fn copy_of(message: Option<&Message>) -> Result<Option<Message>, AllocError>
-    ensures { IfOk result (λ copy. copy ≡ option_copied message.entry) }
-{
-    match message {
-        Some(message) => Ok(Some(message.try_copy()?)),
-        None => Ok(None),
     }
 }

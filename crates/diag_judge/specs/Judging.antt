@@ -3,6 +3,7 @@ use Rattle.std.specs.Prelude.{◌≡◌, ℕ, not, Bool, List, [], ◌∷◌, �
 use Rattle.std.specs.List.{filter, list_any}
 use Rattle.diag_can.specs.Log.{waited}
 use Rattle.diag_can.specs.Event.{Event, Physical}
+use Rattle.diag_can.specs.declared.frame.Frame.{Frame}
 use Rattle.diag_pdu.specs.declared.setup.LinkSetup.{LinkSetup}
 use Rattle.diag_setup.specs.declared.raw.RawSetup.{RawSetup}
 use Rattle.diag_exchange.specs.Agreeing.{agrees, is_compared}
@@ -72,6 +73,11 @@ HearsLine setup at old new out out' span entered frame = (E : List Event) (hs : 
     → Listens old E hs
     → Listens new ((E ++ waited span) ++ frame_events frame) (hs ++ line_happens setup old.setup at E span entered frame)
     × (out' ≡ out ++ over_after hs (line_happens setup old.setup at E span entered frame))
+
+-- the bytes of a frame, where there is one
+abbrev pub bytes_in : Option Frame → Option (List ℕ)
+bytes_in None = None
+bytes_in (Some frame) = Some frame.bytes
 
 -- it took a line, and what was over with it was judged
 abbrev pub JudgesLine : RawSetup → CaptureLine → ℕ → Tester → Tester → List Judged → List Judged → ℕ → Option (List ℕ) → Type 0

@@ -1,11 +1,13 @@
 //! A tester of a recording.
 
 ghost use Rattle.std.specs.Prelude.{◌≡◌, ◌≤◌, ◌+◌, true, None, [], ◌∷◌, ◌++◌, List, length, map, option_copied, OnOk, IfOk};
+ghost use Rattle.diag_can.specs.Event.{Physical};
 ghost use Rattle.diag_exchange.specs.Agreeing.{agrees};
 ghost use Rattle.diag_exchange.specs.Over.{Over as AnOver};
-ghost use Rattle.diag_judge.specs.Judging.{AreCounts, EndsCounted, EndsJudged, HearsLine, HearsRequests, Judges, JudgesLine, judged_for};
+ghost use Rattle.diag_listen.specs.Listening.{Hears};
+ghost use Rattle.diag_judge.specs.Judging.{AreCounts, EndsCounted, EndsJudged, HearsLine, HearsRequests, Judges, JudgesLine, bytes_in, judged_for};
 
-use diag_can::KeptBytes;
+use diag_can::FrameText;
 use diag_exchange::{CaptureLine, Over};
 use diag_expect::Entered;
 use diag_listen::Listener;
@@ -71,6 +73,40 @@ fn hear_requests(
     Ok(())
 }
 
+/// Hears a frame of the unit; what is over with it is put behind `over`.
+#[inline(always)]
+fn hear_frame(
+    listener: &mut Listener,
+    at: CaptureLine,
+    frame: &FrameText<'_>,
+    over: &mut Vec<Over>,
+) -> Result<(), AllocError>
+    ensures heard { OnOk result (Hears listener.old listener.new over.old.items over.new.items at
+        (Physical frame.now.bytes ∷ [])) }
+    ensures link_setup { listener.new.setup ≡ listener.old.setup }
+{
+    if frame.is_long() {
+        return hear_long(listener, at, frame, over);
+    }
+    listener.take(at, frame.bytes().as_slice(), over)
+}
+
+/// The same of a frame of more than 8 bytes.
+#[cold]
+#[inline(never)]
+fn hear_long(
+    listener: &mut Listener,
+    at: CaptureLine,
+    frame: &FrameText<'_>,
+    over: &mut Vec<Over>,
+) -> Result<(), AllocError>
+    ensures heard { OnOk result (Hears listener.old listener.new over.old.items over.new.items at
+        (Physical frame.now.bytes ∷ [])) }
+    ensures link_setup { listener.new.setup ≡ listener.old.setup }
+{
+    listener.take(at, frame.long_bytes().as_slice(), over)
+}
+
 /// Lets all go that is in a list, where something is.
 #[inline(always)]
 fn empty(over: &mut Vec<Over>)
@@ -131,11 +167,11 @@ impl Tester {
         who: TesterId,
         at: CaptureLine,
         span: u64,
-        frame: Option<&KeptBytes>,
+        frame: Option<&FrameText<'_>>,
         judged: &mut Vec<Judged>,
     ) -> Result<(), AllocError>
         ensures judges { OnOk result (JudgesLine setup.now at who self.old self.new judged.old.items judged.new.items span
-            (option_copied frame.entry)) }
+            (bytes_in (option_copied frame.entry))) }
         ensures entered { OnOk result (self.new.entered.items ≡ []) }
         ensures link_setup { self.new.listener.setup ≡ self.old.listener.setup }
     {
@@ -162,11 +198,11 @@ impl Tester {
         who: TesterId,
         at: CaptureLine,
         span: u64,
-        frame: Option<&KeptBytes>,
+        frame: Option<&FrameText<'_>>,
         judged: &mut Vec<Judged>,
     ) -> Result<(), AllocError>
         ensures judges { OnOk result (JudgesLine setup.now at who self.old self.new judged.old.items judged.new.items span
-            (option_copied frame.entry)) }
+            (bytes_in (option_copied frame.entry))) }
         ensures entered { OnOk result (self.new.entered.items ≡ []) }
         ensures link_setup { self.new.listener.setup ≡ self.old.listener.setup }
     {
@@ -185,10 +221,10 @@ impl Tester {
         setup: &Setup,
         at: CaptureLine,
         span: u64,
-        frame: Option<&KeptBytes>,
+        frame: Option<&FrameText<'_>>,
     ) -> Result<(), AllocError>
         ensures heard { OnOk result (HearsLine setup.now at self.old.listener self.new.listener [] self.new.over.items
-            span self.old.entered.items (option_copied frame.entry)) }
+            span self.old.entered.items (bytes_in (option_copied frame.entry))) }
         ensures entered { OnOk result (self.new.entered.items ≡ []) }
         ensures link_setup { self.new.listener.setup ≡ self.old.listener.setup }
         ensures counts { self.new.counts ≡ self.old.counts }
@@ -203,7 +239,7 @@ impl Tester {
             &mut self.over,
         )?;
         match frame {
-            Some(frame) => self.listener.take(at, frame.as_slice(), &mut self.over),
+            Some(frame) => hear_frame(&mut self.listener, at, frame, &mut self.over),
             None => Ok(()),
         }
     }
@@ -268,6 +304,7 @@ impl Counts {
     }
 
     /// Counts the last of some exchanges, and says whether it agrees.
+    #[inline(always)]
     fn judge_last(&mut self, alloc: Global, over: &[Over]) -> Result<bool, AllocError>
         requires { 1 ≤ length over.now }
         ensures agrees { IfOk result (λ same. (less : List AnOver) (one : AnOver) → over.now ≡ less ++ one ∷ []

@@ -98,6 +98,7 @@ impl Listener {
     ///
     /// # Errors
     /// As `wait`.
+    #[inline(always)]
     pub fn take(
         &mut self,
         at: CaptureLine,

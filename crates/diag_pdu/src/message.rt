@@ -268,6 +268,25 @@ impl Message {
         }
     }
 
+    /// Becomes a message of the same bytes, in the memory that it has where that is enough.
+    ///
+    /// # Errors
+    /// `AllocError` where memory is refused; the message stays as it is then.
+    #[inline(always)]
+    pub fn set_copy(&mut self, other: &Message) -> Result<(), AllocError>
+        ensures value { OnOk result (self.new ≡ other.now) }
+        ensures same { OnErr result (self.new ≡ self.old) }
+        ensures in_place { length other.now ≤ 8 → IsOk result }
+    {
+        match &other.bytes {
+            Bytes::Short(short) => {
+                self.set_in_place(short.frame());
+                Ok(())
+            }
+            Bytes::Long(bytes) => self.set(*bytes.allocator(), bytes.as_slice()),
+        }
+    }
+
     /// The bytes as those of a frame, where they stand in place.
     #[inline(always)]
     pub(crate) fn in_frame(&self) -> Option<FrameBytes>

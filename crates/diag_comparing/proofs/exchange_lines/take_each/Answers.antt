@@ -7,7 +7,7 @@ use Rattle.std.specs.Prelude.{◌++◌, map, option_copied, slice_get, slice_set
 use Rattle.diag_setup.specs.Setup.{ids_of}
 use Rattle.diag_bus.specs.Events.{frame_said}
 use Rattle.diag_bus.specs.RequestIds.{IsWithin}
-use Rattle.diag_judge.specs.Judging.{JudgesLine}
+use Rattle.diag_judge.specs.Judging.{JudgesLine, bytes_in}
 use Rattle.diag_judge.specs.declared.tester.Tester.{Tester}
 use Rattle.diag_pdu.specs.Cut.{counted_from}
 use Rattle.diag_compare.specs.Compare.{over_by}
@@ -53,10 +53,10 @@ loop-index-preserved c =
     let within : i < length now = omega (arith, c.loop-index-test.true, c.loop-index.invariant.many, c.min-end.ensures, c.len.ensures) in
     let here : slice_get now i ≡ Some own = slice_get_read now (length now) i own refl within c.index_mut.ensures.value in
     let who = c.who-who.ensures in
-    let bytes : Option (List ℕ) = option_copied c.bytes_to-frame.result in
+    let bytes : Option (List ℕ) = bytes_in (option_copied c.frame_to-frame.result) in
     let is_within : IsWithin (length setup.testers) c.who-who.result = (omega (arith, who), omega (arith, who, within, c.requires.many, c.loop-index.invariant.many)) in
     let frame : bytes ≡ bytes_with (ids_of setup (i + 1)).response (frame_said said) =
-    c.bytes_to-frame.ensures ∙ (c.requires.sent c.who-who.result is_within ∙ ap (λ t. bytes_with (ids_of setup t).response (frame_said said)) who) in
+    c.frame_to-frame.ensures ∙ (c.requires.sent c.who-who.result is_within ∙ ap (λ t. bytes_with (ids_of setup t).response (frame_said said)) who) in
     let took : JudgesLine setup c.args.at (i + 1) own new c.loop-index.judged.items c.take_line.new.judged.items c.args.span bytes =
     subst (λ t. JudgesLine setup c.args.at t own new c.loop-index.judged.items c.take_line.new.judged.items c.args.span bytes) who c.in_ok-take_line.ensures.judges in
     let read : Tester = c.index.result.now in

@@ -1,6 +1,6 @@
 use Rattle.std.proofs.Common.{◌≡◌, ℕ, None, List, Option, ap, subst, sym, rules}
 use Rattle.std.specs.Prelude.{option_copied}
-use Rattle.diag_judge.specs.Judging.{JudgesLine}
+use Rattle.diag_judge.specs.Judging.{JudgesLine, bytes_in}
 use Rattle.diag_judge.proofs.Lines.{idle_judged}
 use Rattle.diag_judge.proofs.tester.Tester.take_line.Goals as goal
 
@@ -9,7 +9,7 @@ returns-then-is_idle-clause-judges c =
     let own = c.args.self.now in
     let judged = c.args.judged.now.items in
     let none : c.args.frame ≡ None = search rules in
-    let is : option_copied c.args.frame ≡ None = ap option_copied none in
+    let is : bytes_in (option_copied c.args.frame) ≡ None = ap (λ f. bytes_in (option_copied f)) none in
     subst
     (λ (frame : Option (List ℕ)). JudgesLine c.args.setup.now c.args.at c.args.who own own judged judged c.args.span frame)
     (sym is)
