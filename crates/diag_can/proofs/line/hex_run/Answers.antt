@@ -37,9 +37,10 @@ loop-at-init c = (omega arith, λ k lt. absurd (omega arith))
 
 pub loop-at-preserved : goal.loop-at-preserved
 loop-at-preserved c =
-    let run = c.hex_of_sixteen-run.ensures in (
-      omega (arith, run.in_range, c.loop-at-test.true),
-      goes_on c.args.text.now c.loop-at.at c.loop-at.invariant.0 c.loop-at.invariant.1 16 c.hex_of_sixteen-run.result run,
+    let run = c.hex_of_sixteen-run.ensures in
+    let all : c.hex_of_sixteen-run.result ≡ 16 = omega (arith, run.in_range, c.if-run-lt16.false) in (
+      omega (arith, c.loop-at-test.true),
+      λ k lt. goes_on c.args.text.now c.loop-at.at c.loop-at.invariant.0 c.loop-at.invariant.1 16 c.hex_of_sixteen-run.result run k (omega (arith, all, lt)),
     )
 
 pub returns-then-run-lt16-clause-count : goal.returns-then-run-lt16-clause-count
