@@ -54,7 +54,7 @@ impl Comparison {
         }
     }
 
-    /// Takes a frame that the server sends. One that the recording had is looked at where it lies, and kept no longer.
+    /// Takes a frame that the server sends.
     #[inline(always)]
     fn expect(&mut self, bytes: &[u8]) -> Result<(), AllocError>
         requires { length bytes.now ≤ 64 }
@@ -63,8 +63,23 @@ impl Comparison {
         if self.difference.is_some() {
             return Ok(());
         }
+        if !self.ahead.is_empty() {
+            return self.expect_recorded(bytes);
+        }
+        keep(&mut self.behind, bytes)
+    }
+
+    /// The same where the recording has a frame at its index: it is looked at where it lies, and where it is the same kept no
+    /// longer.
+    #[inline(never)]
+    fn expect_recorded(&mut self, bytes: &[u8]) -> Result<(), AllocError>
+        requires fits { length bytes.now ≤ 64 }
+        requires agrees { self.old.difference ≡ None }
+        requires some { 1 ≤ length self.old.ahead.items }
+        ensures { OnOk result (Expects self.old self.new (bytes.now ∷ [])) }
+    {
         let Some(frame) = self.ahead.front() else {
-            return keep(&mut self.behind, bytes);
+            unreachable!()
         };
         if !frame.bytes.is(bytes) {
             return self.expect_other(bytes);
@@ -73,7 +88,7 @@ impl Comparison {
         Ok(())
     }
 
-    /// The same where the recording has another frame at its index: the first difference.
+    /// The same where that is another frame: the first difference.
     #[cold]
     #[inline(never)]
     fn expect_other(&mut self, bytes: &[u8]) -> Result<(), AllocError>
@@ -116,7 +131,7 @@ impl Comparison {
         self.record(line, bytes.as_slice())
     }
 
-    /// The same of a frame of these bytes. One that the server has sent is looked at where it lies, and kept no longer.
+    /// The same of a frame of these bytes.
     #[inline(never)]
     fn record(&mut self, line: u64, bytes: &[u8]) -> Result<(), AllocError>
         requires { length bytes.now ≤ 64 }
@@ -132,10 +147,40 @@ impl Comparison {
         let Some(expected) = self.behind.front() else {
             return self.record_other(line, bytes);
         };
+        if !expected.is_full(bytes) {
+            return self.record_expected(line, bytes);
+        }
+        self.meet();
+        Ok(())
+    }
+
+    /// The frame of the recording that is counted already is the next one that the server has sent, which is kept no longer.
+    #[inline(always)]
+    fn meet(&mut self)
+        requires agrees { self.old.difference ≡ None }
+        requires some { 1 ≤ length self.old.behind.items }
+        ensures { (frame : ARecorded) → slice_get self.old.behind.items 0 ≡ Some frame.bytes
+            → RecordsCounted self.old self.new frame }
+    {
+        let _ = self.behind.pop_front();
+    }
+
+    /// Takes a frame of the recording that is counted already, where the server has sent one at its index: it is looked at
+    /// where it lies.
+    #[inline(never)]
+    fn record_expected(&mut self, line: u64, bytes: &[u8]) -> Result<(), AllocError>
+        requires fits { length bytes.now ≤ 64 }
+        requires agrees { self.old.difference ≡ None }
+        requires some { 1 ≤ length self.old.behind.items }
+        ensures { OnOk result (RecordsCounted self.old self.new (at_line line bytes.now)) }
+    {
+        let Some(expected) = self.behind.front() else {
+            unreachable!()
+        };
         if !expected.is(bytes) {
             return self.record_other(line, bytes);
         }
-        let _ = self.behind.pop_front();
+        self.meet();
         Ok(())
     }
 

@@ -265,12 +265,14 @@ impl Node {
             Owner::Functional => {
                 // (copied: what a call borrows lies in memory, and then would for a tester's own frame too)
                 let lent = bytes.copy();
-                self.give_functional(setup, ids, id, &lent, sink)
+                let event = LentEvent::functional(lent.copy());
+                self.give_functional(setup, ids, id, &lent, &event, sink)
             }
         }
     }
 
-    /// Gives the server a functional frame: it is for each tester that has this functional identifier, in order.
+    /// Gives the server a functional frame of these bytes, an event: it is for each tester that has this functional
+    /// identifier, in order.
     #[inline(never)]
     fn give_functional<S: Sink>(
         &mut self,
@@ -278,8 +280,10 @@ impl Node {
         ids: &RequestIds,
         id: CanId,
         bytes: &LentBytes<'_>,
+        event: &LentEvent<'_>,
         sink: &mut S,
     ) -> Result<(), AllocError>
+        requires event { event.now ≡ AnEvent.Functional bytes.now }
         requires in_setup { length self.old.server.ports ≡ length setup.now.testers }
         requires lists { length self.old.drawn.lists.items ≡ length setup.now.testers }
         requires ids { AreRequestsOf setup.now ids.now }
@@ -287,10 +291,11 @@ impl Node {
         ensures { Passed S.took (StaysFor S.is_for S.aim) self.old sink.old self.new sink.new 0
             (functional_to_all setup.now id (length setup.now.testers) bytes.now) result }
     {
-        let event = LentEvent::functional(bytes.copy());
+        // (for its contract: the event is of these)
+        let _ = bytes;
         for index in 0..setup.testers() {
             let who = setup.who(index);
-            self.give_functional_to(setup, ids, who, id, &event, sink)?;
+            self.give_functional_to(setup, ids, who, id, event, sink)?;
         }
         Ok(())
     }

@@ -104,29 +104,28 @@ impl KeptBytes {
     }
 
     /// Whether these are the bytes.
-    #[inline(always)]
     pub fn is(&self, bytes: &[u8]) -> bool
         ensures { IsTrue result ↔ (self.now ≡ bytes.now) }
     {
-        is_same(self.as_slice(), bytes)
+        self.as_slice() == bytes
+    }
+
+    /// Whether these are the bytes and are eight, as most frames have.
+    #[inline(always)]
+    pub fn is_full(&self, bytes: &[u8]) -> bool
+        ensures { IsTrue result ↔ ((self.now ≡ bytes.now) × (length bytes.now ≡ 8)) }
+    {
+        are_eight(self.as_slice(), bytes)
     }
 }
 
-/// Whether both are the same bytes: eight, as most frames have, are compared as a word.
+/// Whether both are the same eight bytes, which are compared as a word.
 #[inline(always)]
-fn is_same(a: &[u8], b: &[u8]) -> bool
-    ensures { IsTrue result ↔ (a.now ≡ b.now) }
+fn are_eight(a: &[u8], b: &[u8]) -> bool
+    ensures { IsTrue result ↔ ((a.now ≡ b.now) × (length b.now ≡ 8)) }
 {
     match (a.as_array::<8>(), b.as_array::<8>()) {
         (Some(a), Some(b)) => u64::from_le_bytes(*a) == u64::from_le_bytes(*b),
-        _ => is_same_one_by_one(a, b),
+        _ => false,
     }
-}
-
-/// The same, byte by byte.
-#[inline(never)]
-fn is_same_one_by_one(a: &[u8], b: &[u8]) -> bool
-    ensures { IsTrue result ↔ (a.now ≡ b.now) }
-{
-    a == b
 }

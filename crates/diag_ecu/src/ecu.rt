@@ -1,8 +1,8 @@
 //! The ECU: what it holds, and what it does with a request.
-ghost use Rattle.std.specs.Prelude.{◌≡◌, ◌≢◌, ◌≤◌, ◌+◌, ◌++◌, ◌↔◌, [], None, Some, false, length, IfOk, IfNone, OnOk, OnErr};
+ghost use Rattle.std.specs.Prelude.{◌≡◌, ◌≢◌, ◌≤◌, ◌+◌, ◌++◌, ◌↔◌, [], None, Some, false, length, option_map, IfOk, IfNone, IfSome, OnOk, OnErr};
 ghost use Rattle.diag_setup.specs.Setup.{first_holding};
 ghost use Rattle.diag_ecu.specs.State.{opening, is_holder, is_held_by_another, is_open};
-ghost use Rattle.diag_ecu.specs.Respond.{common_checks, own_checks, checks, after_request, decision, delay, may_delay, own_reply, reply, outcome, effect, positive_reply, kept_alive, sent_positive, sent_negative};
+ghost use Rattle.diag_ecu.specs.Respond.{common_checks, own_checks, checks, after_request, decision, delay, may_delay, own_reply, reply, outcome, effect, positive_reply, kept_alive, sent_positive, sent_negative, template_for};
 ghost use Rattle.diag_ecu.specs.Service.{row as row_of};
 
 use crate::bytes::sub_of;
@@ -13,7 +13,7 @@ use crate::session::DEFAULT_SESSION;
 use crate::write_data::write_reply;
 use diag_can::FrameBytes;
 use diag_pdu::Message;
-use diag_setup::{ServerParameters, Setup, TesterId};
+use diag_setup::{ServerParameters, Setup, TemplateItem, TesterId};
 use diag_store::{Answers, Dids, DtcMemory, Routines, Security};
 use std::alloc::{AllocError, Global};
 
@@ -149,6 +149,19 @@ impl Ecu {
         self.ruled_delay(who, message.bytes())
     }
 
+    /// The items of the template from which a request is answered, where a row does that, and not the services.
+    #[inline(always)]
+    pub fn template_for(&self, who: TesterId, p: &[u8]) -> Option<&[TemplateItem]>
+        requires { 1 ≤ length p.now }
+        ensures items { option_map (λ items. items.now) result ≡ template_for self.now who p.now }
+        ensures few { IfSome result (λ items. length items.now ≤ 4095) }
+    {
+        if self.answers.is_empty() {
+            return None;
+        }
+        self.ruled_template(who, p)
+    }
+
     /// Whether there are rows of answers, which are looked at before the services.
     #[inline(always)]
     pub fn has_answers(&self) -> bool
@@ -183,7 +196,8 @@ impl Ecu {
         ensures decision { IfOk result (λ d. d ≡ decision self.now who p.now) }
     {
         if !self.answers.is_empty() {
-            return self.put_ruled(who, functional, p, answer);
+            let decided = self.put_ruled(who, functional, p, answer)?;
+            return Ok(decided);
         }
         let effect = self.put_own(who, functional, p, answer)?;
         Ok(Decision {
@@ -473,7 +487,7 @@ impl Ecu {
 
     /// The reply of these bytes, in memory of its own.
     #[inline(never)]
-    pub(crate) fn say_long(&self, head: &[u8], tail: &[u8]) -> Result<Option<Message>, AllocError>
+    fn say_long(&self, head: &[u8], tail: &[u8]) -> Result<Option<Message>, AllocError>
         requires some { 1 ≤ length head.now }
         requires fits { length head.now + length tail.now ≤ 65535 }
         ensures { IfOk result (λ reply. reply ≡ Some (head.now ++ tail.now)) }

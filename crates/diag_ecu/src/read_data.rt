@@ -9,7 +9,7 @@ use crate::bytes::{bytes_16, number_16};
 use crate::ecu::Ecu;
 use crate::effect::Effect;
 use crate::service::{Nrc, Service};
-use diag_can::FrameBytes;
+use diag_can::{FrameBytes, add_bytes};
 use diag_pdu::Message;
 use diag_setup::TesterId;
 use std::alloc::AllocError;
@@ -158,7 +158,8 @@ impl Ecu {
         Ok(())
     }
 
-    /// The same of a value for which the reply takes memory. (Called, so that its parts lie in no memory of the caller's.)
+    /// The same of a value for which the reply takes memory. (Called, so that its parts lie in no memory of the caller's; it
+    /// calls nothing once it has memory, so that the list moves from registers.)
     #[inline(never)]
     fn put_long_value(
         &self,
@@ -170,7 +171,10 @@ impl Ecu {
         requires { length value.now ≤ 255 }
         ensures { OnOk result (answer.new ≡ Some (0x62 ∷ high ∷ low ∷ value.now)) }
     {
-        *answer = self.say_long(&[0x62, high, low], value)?;
+        let mut bytes = Vec::with_capacity(self.alloc(), 3 + value.len())?;
+        add_bytes(&mut bytes, &[0x62, high, low]);
+        add_bytes(&mut bytes, value);
+        *answer = Some(Message::from_vec(bytes));
         Ok(())
     }
 

@@ -91,8 +91,10 @@ impl Ecu {
         self.enter(who, enter);
     }
 
-    /// The items of the template from which a request is answered, where a row does that, and not the services.
-    pub fn template_for(&self, who: TesterId, p: &[u8]) -> Option<&[TemplateItem]>
+    /// The items of the template from which a request is answered, where a row may decide.
+    #[cold]
+    #[inline(never)]
+    pub(crate) fn ruled_template(&self, who: TesterId, p: &[u8]) -> Option<&[TemplateItem]>
         requires { 1 ≤ length p.now }
         ensures items { option_map (λ items. items.now) result ≡ template_for self.now who p.now }
         ensures few { IfSome result (λ items. length items.now ≤ 4095) }

@@ -1,6 +1,6 @@
 //! What happens to a tester, and what comes of it.
 
-ghost use Rattle.std.specs.Prelude.{◌≡◌, option_copied, IfOk, OnOk};
+ghost use Rattle.std.specs.Prelude.{◌≡◌, option_copied, Some, IfOk, OnOk};
 ghost use Rattle.diag_exchange.specs.Streaming.{request_in};
 ghost use Rattle.diag_exchange.specs.Asking.{first_byte, is_loud, is_pending, replaces, says_pending};
 
@@ -112,18 +112,29 @@ fn copy_of(alloc: Global, message: Option<&Message>) -> Result<Option<Message>, 
     }
 }
 
-/// Becomes a message of the same bytes, where there is one.
+/// Becomes a message of the same bytes, where there is one. (Where there was none before, nothing is written for none.)
 #[inline(always)]
 fn set_copy(place: &mut Option<Message>, message: Option<&Message>) -> Result<(), AllocError>
     ensures { OnOk result (place.new ≡ option_copied message.entry) }
 {
-    match message {
-        Some(message) => match place {
-            Some(kept) => kept.set_copy(message)?,
-            None => *place = Some(message.try_copy()?),
-        },
-        None => *place = None,
+    let Some(message) = message else {
+        if place.is_some() {
+            *place = None;
+        }
+        return Ok(());
+    };
+    match place {
+        Some(kept) => kept.set_copy(message),
+        None => fill(place, message),
     }
+}
+
+/// The same where there was none, and is one.
+#[inline(never)]
+fn fill(place: &mut Option<Message>, message: &Message) -> Result<(), AllocError>
+    ensures { OnOk result (place.new ≡ Some message.now) }
+{
+    *place = Some(message.try_copy()?);
     Ok(())
 }
 
@@ -156,7 +167,7 @@ impl Expected {
         ensures { OnOk result (self.new ≡ (request_in lent.now).expected) }
     {
         set_copy(&mut self.reply, lent.reply)?;
-        // (mostly nothing does, and nothing is written then)
+        // (where none did before, nothing is written)
         if self.varies.is_some() {
             self.varies = None;
         }

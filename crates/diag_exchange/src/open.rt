@@ -106,9 +106,14 @@ impl Open {
     }
 
     /// These bytes of the server's reply vary.
+    #[inline(always)]
     pub fn mark(&mut self, marks: Option<Message>)
         ensures { self.new ≡ marked marks self.old }
     {
+        // (mostly none do, and nothing is written then)
+        if marks.is_none() && self.request.expected.varies.is_none() {
+            return;
+        }
         self.request.expected.varies = marks;
     }
 

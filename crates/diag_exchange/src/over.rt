@@ -63,6 +63,7 @@ impl Over {
     ///
     /// # Errors
     /// `AllocError` where memory is refused.
+    #[inline(never)]
     pub fn unasked(alloc: Global, heard: Heard) -> Result<Over, AllocError>
         ensures { IfOk result (λ made. made ≡ over.Unasked heard) }
     {

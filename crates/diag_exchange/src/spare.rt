@@ -42,8 +42,17 @@ impl Spare {
                 own.set(lent)?;
                 Ok(own)
             }
-            None => OpenBox::new(self.alloc(), lent.try_copy(self.alloc())?),
+            None => self.open_new(lent),
         }
+    }
+
+    /// The same in a new box.
+    #[cold]
+    #[inline(never)]
+    fn open_new(&self, lent: &TakenRequest<'_>) -> Result<OpenBox, AllocError>
+        ensures { IfOk result (λ own. own ≡ opened (request_in lent.now)) }
+    {
+        OpenBox::new(self.alloc(), lent.try_copy(self.alloc())?)
     }
 
     /// Takes back the box of an exchange that was told. (Where memory is refused for a longer list, the box is let go.)

@@ -7,7 +7,7 @@ ghost use Rattle.diag_expect.specs.Expecting.{data_marks, did_of, is_ignored, is
 
 use diag_pdu::Message;
 use diag_setup::{RawDid, Setup, TemplateItem};
-use diag_store::fits;
+use diag_store::{find_row, fits};
 use std::alloc::{AllocError, Global};
 
 /// Whether the answer to a request isn't compared.
@@ -103,7 +103,7 @@ fn data_marks(
 fn did_of(setup: &Setup, id: u32) -> Option<&RawDid>
     ensures { option_map (λ did. did.now) result ≡ did_of setup.now id }
 {
-    setup.dids().iter().find(|did| did.id == id)
+    find_row(setup.dids(), id)
 }
 
 /// The identifier of two bytes.

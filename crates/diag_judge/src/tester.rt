@@ -1,13 +1,13 @@
 //! A tester of a recording.
 
-ghost use Rattle.std.specs.Prelude.{◌≡◌, ◌≤◌, ◌+◌, true, None, [], ◌∷◌, ◌++◌, List, length, map, option_copied, OnOk, IfOk};
+ghost use Rattle.std.specs.Prelude.{◌≡◌, ◌≤◌, ◌<◌, ◌+◌, true, None, [], ◌∷◌, ◌++◌, List, length, map, option_copied, OnOk, IfOk};
 ghost use Rattle.diag_can.specs.Event.{Physical};
 ghost use Rattle.diag_exchange.specs.Agreeing.{agrees};
 ghost use Rattle.diag_exchange.specs.Over.{Over as AnOver};
 ghost use Rattle.diag_listen.specs.Listening.{Hears};
 ghost use Rattle.diag_judge.specs.Judging.{AreCounts, EndsCounted, EndsJudged, HearsLine, HearsRequests, Judges, JudgesLine, bytes_in, judged_for};
 
-use diag_can::FrameText;
+use diag_can::{FrameText, LentBytes};
 use diag_exchange::{CaptureLine, Over};
 use diag_expect::Entered;
 use diag_listen::Listener;
@@ -88,7 +88,7 @@ fn hear_frame(
     if frame.is_long() {
         return hear_long(listener, at, frame, over);
     }
-    listener.take(at, frame.bytes().as_slice(), over)
+    listener.take(at, &LentBytes::short(&frame.bytes()), over)
 }
 
 /// The same of a frame of more than 8 bytes.
@@ -100,11 +100,13 @@ fn hear_long(
     frame: &FrameText<'_>,
     over: &mut Vec<Over>,
 ) -> Result<(), AllocError>
+    requires { 8 < length frame.now.bytes }
     ensures heard { OnOk result (Hears listener.old listener.new over.old.items over.new.items at
         (Physical frame.now.bytes ∷ [])) }
     ensures link_setup { listener.new.setup ≡ listener.old.setup }
 {
-    listener.take(at, frame.long_bytes().as_slice(), over)
+    let bytes = frame.long_bytes();
+    listener.take(at, &LentBytes::long(bytes.as_slice()), over)
 }
 
 /// Lets all go that is in a list, where something is.

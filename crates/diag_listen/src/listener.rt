@@ -3,7 +3,7 @@
 ghost use Rattle.std.specs.Prelude.{◌≡◌, ◌≤◌, ◌<◌, [], ◌∷◌, ◌++◌, length, is_some, None, Some, IsSome, OnOk};
 ghost use Rattle.diag_can.specs.Event.{Event as AnEvent};
 ghost use Rattle.diag_can.specs.Log.{waited};
-ghost use Rattle.diag_pdu.specs.Kind.{Consecutive, IsRead, says};
+ghost use Rattle.diag_pdu.specs.Kind.{Consecutive, IsRead, Single, kind, says};
 ghost use Rattle.diag_pdu.specs.Cut.{head_size};
 ghost use Rattle.diag_pdu.specs.Length.{single_most};
 ghost use Rattle.diag_sides.specs.Receiver.{begun_receiving, open_after};
@@ -12,7 +12,7 @@ ghost use Rattle.diag_exchange.specs.Taking.{Ended};
 ghost use Rattle.diag_exchange.specs.declared.happening.Happening.TheVariants.{Began, Came};
 ghost use Rattle.diag_listen.specs.Listening.{Hears, HearsRequest, Listens, Moves, TookEach, after_ticks, began, kind_happens, lost_if, part_happens, ticks_happen};
 
-use diag_can::TickCount;
+use diag_can::{LentBytes, TickCount};
 use diag_exchange::{CaptureLine, Exchanges, OpenBox, Over, Start};
 use diag_pdu::{DataLength, LinkSetup, Message, Pci};
 use diag_sides::Receiver;
@@ -102,15 +102,15 @@ impl Listener {
     pub fn take(
         &mut self,
         at: CaptureLine,
-        frame: &[u8],
+        frame: &LentBytes<'_>,
         over: &mut Vec<Over>,
     ) -> Result<(), AllocError>
-        requires { length frame.now ≤ 64 }
         ensures heard { OnOk result (Hears self.old self.new over.old.items over.new.items at
             (AnEvent.Physical frame.now ∷ [])) }
         ensures setup { self.new.setup ≡ self.old.setup }
     {
-        self.take_pci(at, Pci::read(frame, self.setup.max_request), over)
+        let pci = Pci::read(frame.as_slice(), self.setup.max_request);
+        self.take_pci(at, frame, pci, over)
     }
 
     /// Hears a request of the tester, complete, of which nothing was heard.
@@ -138,20 +138,30 @@ impl Listener {
     }
 
     /// Hears a frame of this kind.
+    #[inline(always)]
     fn take_pci(
         &mut self,
         at: CaptureLine,
+        frame: &LentBytes<'_>,
         pci: Pci<'_>,
         over: &mut Vec<Over>,
     ) -> Result<(), AllocError>
-        requires { IsRead self.old.setup.max_request (says pci) }
+        requires read { IsRead self.old.setup.max_request (says pci) }
+        requires kind { says pci ≡ kind frame.now self.old.setup.max_request }
         ensures moves { OnOk result (Moves self.old self.new over.old.items over.new.items
             (kind_happens self.old.receiver.partial at (says pci.entry))
             (open_after self.old.receiver.partial (says pci.entry))) }
         ensures setup { self.new.setup ≡ self.old.setup }
     {
         match pci {
-            Pci::Single(payload) => self.take_single(at, payload, over),
+            Pci::Single(payload) => {
+                let start = start_of(at, payload);
+                if frame.as_slice().len() > 8 {
+                    return self.take_long_single(start, payload, over);
+                }
+                let message = self.short_message(frame, payload);
+                self.take_single(start, message, over)
+            }
             Pci::First { len, rx_dl, head } => self.take_first(at, len, rx_dl, head, over),
             Pci::Overflow => self.lose(over),
             Pci::Consecutive {
@@ -162,21 +172,50 @@ impl Listener {
         }
     }
 
-    /// A message of one frame.
-    fn take_single(
+    /// The message of a classic SingleFrame, whose bytes are moved together.
+    #[tactic(auto, using(diag_tp::proofs::Takings::payload_inside, diag_tp::proofs::Takings::payload_same))]
+    #[inline(always)]
+    fn short_message(&self, frame: &LentBytes<'_>, payload: &[u8]) -> Message
+        requires single { kind frame.now self.now.setup.max_request ≡ Single payload.now }
+        requires some { 1 ≤ length payload.now }
+        requires short { length frame.now ≤ 8 }
+        ensures { result ≡ payload.now }
+    {
+        Message::in_place(frame.part(1, payload.len()))
+    }
+
+    /// A message of one frame of more than 8 bytes.
+    #[cold]
+    #[inline(never)]
+    fn take_long_single(
         &mut self,
-        at: CaptureLine,
+        start: Start,
         payload: &[u8],
         over: &mut Vec<Over>,
     ) -> Result<(), AllocError>
         requires { (1 ≤ length payload.now) × (length payload.now ≤ 62) }
         ensures moves { OnOk result (Moves self.old self.new over.old.items over.new.items
-            (lost_if (is_some self.old.receiver.partial) ++ began at payload.now ∷ Came payload.now ∷ []) None) }
+            (lost_if (is_some self.old.receiver.partial) ++ Began start ∷ Came payload.now ∷ []) None) }
         ensures setup { self.new.setup ≡ self.old.setup }
     {
         let message = Message::of(*over.allocator(), payload)?;
+        self.take_single(start, message, over)
+    }
+
+    /// A message of one frame.
+    #[inline(always)]
+    fn take_single(
+        &mut self,
+        start: Start,
+        message: Message,
+        over: &mut Vec<Over>,
+    ) -> Result<(), AllocError>
+        ensures moves { OnOk result (Moves self.old self.new over.old.items over.new.items
+            (lost_if (is_some self.old.receiver.partial) ++ Began start ∷ Came message ∷ []) None) }
+        ensures setup { self.new.setup ≡ self.old.setup }
+    {
         self.lose(over)?;
-        self.exchanges.begin(start_of(at, payload));
+        self.exchanges.begin(start);
         self.exchanges.come(message, over)
     }
 

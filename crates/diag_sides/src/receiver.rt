@@ -11,7 +11,7 @@ ghost use Rattle.diag_sides.specs.Receiver.{ask_of, kept_bytes, begun_receiving,
 ghost use Rattle.diag_pdu.specs.Request.{request_of};
 ghost use Rattle.diag_pdu.specs.Kind.{Single, Consecutive, IsRead, says, single_only, room_to_begin, needed_for};
 
-use diag_can::FrameBytes;
+use diag_can::{FrameBytes, add_bytes};
 use diag_pdu::{
     DataLength, LinkSetup, Message, Pci, Request, consecutive_count, flow_frame, gone_with, padded,
 };
@@ -525,19 +525,18 @@ impl Receiver {
     }
 }
 
-/// Adds the bytes of a First, where there is room: mostly there are six, which are read before any is written.
+/// Adds the bytes of a First, where there is room: mostly there are six, which are read before any is written. Nothing is
+/// called, so that the list moves from registers.
 #[inline(always)]
 fn add_head(bytes: &mut Vec<u8>, head: &[u8])
     requires room { length bytes.old.items + length head.now ≤ vec_capacity bytes.old }
     ensures items { bytes.new.items ≡ bytes.old.items ++ head.now }
     ensures kept { vec_capacity bytes.old ≤ vec_capacity bytes.new }
 {
-    let added = match head.as_array::<6>() {
-        Some(&six) => bytes.extend_from_slice(&six),
-        None => bytes.extend_from_slice(head),
-    };
-    let taken = added.is_ok();
-    prove!(taken);
+    match head.as_array::<6>() {
+        Some(&six) => add_bytes(bytes, &six),
+        None => add_bytes(bytes, head),
+    }
 }
 
 /// Flow control that lets the sender go on.

@@ -15,4 +15,5 @@ pub use dids::{DidFault, DidRow, DidRule, Dids};
 pub use dtcs::{ALL_GROUPS, Dtc, DtcMemory};
 pub use levels::{KeyRow, KeyRows, Level, Levels};
 pub use routines::{Routine, RoutineState, Routines};
+pub use search::find_row;
 pub use security::{KeyAnswer, Outstanding, Security, SecurityState, SeedAnswer};

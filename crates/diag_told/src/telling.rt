@@ -37,9 +37,13 @@ pub fn tell(
 {
     let room = line_room(name, over, same).ok_or(AllocError)?;
     text.reserve(room)?;
-    add_front(text, second, name, moment, over);
-    add_expected(text, over, same);
-    add_numbers(text, over);
+    let alloc = *text.allocator();
+    // (in a variable of its own, so that the text's place and length stay in registers)
+    let mut line = mem::replace(text, Vec::new(alloc));
+    add_front(&mut line, second, name, moment, over);
+    add_expected(&mut line, over, same);
+    add_numbers(&mut line, over);
+    *text = line;
     Ok(())
 }
 
@@ -65,22 +69,18 @@ fn add_front(text: &mut Vec<u8>, second: &mut Second, name: &[u8], moment: u64, 
         + (length name.now + length (request_text over.now) + length (sent_text over.now) + 80) }
     ensures capacity { vec_capacity text.new ≡ vec_capacity text.old }
 {
-    let alloc = *text.allocator();
-    // (in a variable of its own, so that the text's place and length stay in registers)
-    let mut line = mem::replace(text, Vec::new(alloc));
     add_head(
-        &mut line,
+        text,
         second,
         name,
         moment,
         capture_line(over).number,
         kind(over),
     );
-    add_message(&mut line, request(over));
-    line.push_reserved(b' ');
-    add_message(&mut line, sent(over));
-    line.push_reserved(b' ');
-    *text = line;
+    add_message(text, request(over));
+    text.push_reserved(b' ');
+    add_message(text, sent(over));
+    text.push_reserved(b' ');
 }
 
 /// Adds line, stamp, tester and kind, each before a space, where there is room.
@@ -110,14 +110,11 @@ fn add_numbers(text: &mut Vec<u8>, over: &Over)
     ensures len { vec_len text.new ≤ vec_len text.old + 48 }
     ensures capacity { vec_capacity text.new ≡ vec_capacity text.old }
 {
-    let alloc = *text.allocator();
-    let mut line = mem::replace(text, Vec::new(alloc));
-    line.push_reserved(b' ');
-    add_time(&mut line, over.waited());
-    line.push_reserved(b' ');
-    add_decimal(&mut line, pendings(over));
-    line.push_reserved(b'\n');
-    *text = line;
+    text.push_reserved(b' ');
+    add_time(text, over.waited());
+    text.push_reserved(b' ');
+    add_decimal(text, pendings(over));
+    text.push_reserved(b'\n');
 }
 
 /// Adds the time until the answer, where there is one, and where there is room.
@@ -242,7 +239,11 @@ fn add_expected(text: &mut Vec<u8>, over: &Over, same: bool)
             if same {
                 return text.push_reserved(b'=');
             }
-            add_reply(text, &request.expected);
+            // (what a call borrows lies in memory)
+            let alloc = *text.allocator();
+            let mut line = mem::replace(text, Vec::new(alloc));
+            add_reply(&mut line, &request.expected);
+            *text = line;
         }
         OverKind::Unasked(_) => text.push_reserved(b'-'),
     }

@@ -8,5 +8,5 @@ pub returns-clause-heard : goal.returns-clause-heard
 returns-clause-heard c =
     subst
     (λ (bytes : List ℕ). OnOk c.take.result (Hears c.args.listener.now c.take.new.self c.args.over.now.items c.take.new.over.items c.args.at (Physical bytes ∷ [])))
-    (c.as_slice.ensures.bytes ∙ c.long_bytes.ensures)
+    (c.long.ensures ∙ (c.as_slice.ensures.bytes ∙ c.long_bytes-bytes.ensures))
     c.take.ensures.heard

@@ -1,6 +1,5 @@
-use Rattle.std.proofs.Common.{◌≡◌, ◌∙◌, length, refl, ap, sym, arith}
+use Rattle.std.proofs.Common.{◌≡◌, length, refl, ap, sym, arith}
 use Rattle.std.proofs.lemmas.Result.{err_from_is_err_and}
-use Rattle.diag_can.specs.Event.{Functional}
 use Rattle.diag_bus.specs.RequestIds.{functional_to_all}
 use Rattle.diag_bus.proofs.Nodes.{functional_more}
 use Rattle.diag_bus.proofs.Paces.{has_left}
@@ -27,12 +26,12 @@ pub loop-index-preserved : goal.loop-index-preserved
 loop-index-preserved g c =
     let who = c.who-who.ensures in
     passed_as _ _ refl (sym (functional_more c.args.setup.now c.args.id c.args.bytes.now c.loop-index.index c.who-who.result who))
-    (passed_then _ _ (stays_kept g.S.Sink.is_for g.S.Sink.aim) 0 (omega arith) c.loop-index.invariant (c.in_ok-give_functional_to.ensures c.args.bytes.now (c.functional-event.ensures ∙ ap Functional c.copy.ensures)))
+    (passed_then _ _ (stays_kept g.S.Sink.is_for g.S.Sink.aim) 0 (omega arith) c.loop-index.invariant (c.in_ok-give_functional_to.ensures c.args.bytes.now c.requires.event))
 
 pub returns-in_err-give_functional_to : goal.returns-in_err-give_functional_to
 returns-in_err-give_functional_to g c =
     passed_err _ _ 0 _ (omega arith) (err_from_is_err_and c.from_residual.result c.from_residual.ensures.1).1
-    (passed_then _ _ (stays_kept g.S.Sink.is_for g.S.Sink.aim) 0 (omega arith) c.loop-index.invariant (c.in_err-give_functional_to.ensures c.args.bytes.now (c.functional-event.ensures ∙ ap Functional c.copy.ensures)))
+    (passed_then _ _ (stays_kept g.S.Sink.is_for g.S.Sink.aim) 0 (omega arith) c.loop-index.invariant (c.in_err-give_functional_to.ensures c.args.bytes.now c.requires.event))
 
 pub returns : goal.returns
 returns g c =

@@ -1,9 +1,8 @@
-use Rattle.std.proofs.Common.{◌≡◌, ℕ, ◌∷◌, [], ◌++◌, None, List, ap, ap₂, ◌∙◌}
+use Rattle.std.proofs.Common.{◌∷◌, [], ◌++◌, None, ap}
 use Rattle.std.specs.Prelude.{is_some}
-use Rattle.diag_exchange.specs.declared.happening.Happening.{Happening}
 use Rattle.diag_exchange.specs.declared.happening.Happening.TheVariants.{Began, Came}
 use Rattle.diag_exchange.specs.declared.exchanges.Exchanges.{Exchanges}
-use Rattle.diag_listen.specs.Listening.{began, lost_if}
+use Rattle.diag_listen.specs.Listening.{lost_if}
 use Rattle.diag_listen.specs.declared.listener.Listener.{Listener}
 use Rattle.diag_listen.proofs.Hearing.{both_ok, has_moved, took_both, took_one, took_silently}
 use Rattle.diag_listen.proofs.listener.Listener.take_single.Goals as goal
@@ -17,18 +16,15 @@ returns-clause-moves c =
     let out = c.args.over.now.items in
     let handed = c.lose.new.over.items in
     let all = c.come.new.over.items in
-    let start = c.start_of.result in
-    let message = c.in_ok-message.message in
+    let start = c.args.start in
+    let message = c.args.message in
     let new : Listener = record { setup = c.lose.new.self.setup; receiver = c.lose.new.self.receiver; exchanges = last } in
-    let first : Began start ≡ began c.args.at c.args.payload.now = c.start_of.ensures in
-    let whole : message ≡ c.args.payload.now = c.in_ok-message.ensures.value in
     both_ok c.come.result _ _ _ c.come.ensures.ok c.come.ensures.coming (λ came none hs s e.
     has_moved old.exchanges new out all (lost_if (is_some old.exchanges.coming) ++ Began start ∷ Came message ∷ [])
-    (lost_if (is_some old.receiver.partial) ++ began c.args.at c.args.payload.now ∷ Came c.args.payload.now ∷ []) None
+    (lost_if (is_some old.receiver.partial) ++ Began start ∷ Came message ∷ []) None
     (took_both old.exchanges mid last out handed all (lost_if (is_some old.exchanges.coming)) (Began start ∷ Came message ∷ [])
     c.in_ok-lose.ensures.took
     (took_both mid begun last handed handed all (Began start ∷ []) (Came message ∷ []) (took_silently mid begun handed (Began start) c.begin.ensures.took)
     (took_one begun last handed all (Came message) came)))
-    (ap (λ b. lost_if b ++ Began start ∷ Came message ∷ []) e
-    ∙ ap₂ (λ (x : Happening) (y : List ℕ). lost_if (is_some old.receiver.partial) ++ x ∷ Came y ∷ []) first whole)
+    (ap (λ b. lost_if b ++ Began start ∷ Came message ∷ []) e)
     c.lose.ensures.partial (ap is_some none) hs s)

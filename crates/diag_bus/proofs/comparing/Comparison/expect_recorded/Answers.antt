@@ -1,15 +1,15 @@
-use Rattle.std.proofs.Common.{◌≡◌, ◌∷◌, ◌++◌, ◌∙◌, [], Some, length, refl, sym, subst}
+use Rattle.std.proofs.Common.{◌≡◌, ◌∷◌, ◌++◌, [], Some, length, refl, sym, subst}
 use Rattle.std.proofs.lemmas.Option.{slice_get_read}
 use Rattle.std.specs.Prelude.{slice_get}
 use Rattle.diag_bus.specs.Comparing.{Apart}
-use Rattle.diag_bus.proofs.Apart.{by_front, expected_next, none_is, part_on}
-use Rattle.diag_bus.proofs.comparing.Comparison.expect.Goals as goal
+use Rattle.diag_bus.proofs.Apart.{by_front, expected_next, part_on}
+use Rattle.diag_bus.proofs.comparing.Comparison.expect_recorded.Goals as goal
 
 pub returns : goal.returns
 returns c = λ recorded expected h.
     let kept = c.args.self.now in
     let bytes = c.args.bytes.now in
-    let none = none_is kept.difference (sym c.is_some.ensures ∙ c.if-is_some.false) in
+    let none = c.requires.agrees in
     let frame = c.in-Some.frame.now in
     let ahead = kept.ahead.items in
     let rest = c.pop_front.new.self.items in
