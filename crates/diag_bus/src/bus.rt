@@ -36,7 +36,7 @@ pub struct Bus<S: Sink> {
     sink: S,
 }
 
-// Written out, so that a function which lets a bus go makes one call, and doesn't go through all that it owns.
+// Written out: where a bus is dropped there is one call then, and not the code for each field.
 impl<S: Sink> Drop for Bus<S> {
     fn drop(self) {
         let Bus {

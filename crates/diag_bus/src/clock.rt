@@ -45,7 +45,7 @@ impl Clock {
         }
     }
 
-    /// Goes on by a line that says this, and answers by how many milliseconds. Nothing is asked of memory.
+    /// Advances by this line, and returns by how many milliseconds. It takes no memory.
     ///
     /// # Errors
     /// `Late` where each tester's clock would tell a time behind its last one; the clock stays.

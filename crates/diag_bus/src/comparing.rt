@@ -69,8 +69,7 @@ impl Comparison {
         keep(&mut self.behind, bytes)
     }
 
-    /// The same where the recording has a frame at its index: it is looked at where it lies, and where it is the same kept no
-    /// longer.
+    /// The same where the recording has a frame at its index: it is compared in place, and dropped if it is the same.
     #[inline(never)]
     fn expect_recorded(&mut self, bytes: &[u8]) -> Result<(), AllocError>
         requires fits { length bytes.now ≤ 64 }
@@ -154,7 +153,7 @@ impl Comparison {
         Ok(())
     }
 
-    /// The frame of the recording that is counted already is the next one that the server has sent, which is kept no longer.
+    /// The recorded frame, counted already, is the server's next: that one is dropped.
     #[inline(always)]
     fn meet(&mut self)
         requires agrees { self.old.difference ≡ None }
@@ -165,8 +164,7 @@ impl Comparison {
         let _ = self.behind.pop_front();
     }
 
-    /// Takes a frame of the recording that is counted already, where the server has sent one at its index: it is looked at
-    /// where it lies.
+    /// Takes a recorded frame, counted already, where the server has sent one at its index: it is compared in place.
     #[inline(never)]
     fn record_expected(&mut self, line: u64, bytes: &[u8]) -> Result<(), AllocError>
         requires fits { length bytes.now ≤ 64 }
@@ -184,7 +182,7 @@ impl Comparison {
         Ok(())
     }
 
-    /// Takes a frame of the recording that is counted already, where the server has sent none or another at its index.
+    /// Takes a recorded frame, counted already, where the server has sent none or another at its index.
     #[inline(never)]
     fn record_other(&mut self, line: u64, bytes: &[u8]) -> Result<(), AllocError>
         requires fits { length bytes.now ≤ 64 }
@@ -287,23 +285,6 @@ impl Comparisons {
                 testers: Vec::new(alloc),
             },
         }
-    }
-
-    /// Of a setup's testers nothing was recorded, and nothing sent.
-    fn of(alloc: Global, setup: &Setup) -> Result<Comparisons, AllocError>
-        ensures lines { IfOk result (λ kept. kept.lines ≡ 0) }
-        ensures many { IfOk result (λ kept. length kept.testers.items ≡ length setup.now.testers) }
-        ensures each { IfOk result (λ kept. (i : ℕ) (own : AComparison)
-            → slice_get kept.testers.items i ≡ Some own → Compares own [] []) }
-        ensures responses { IfOk result (λ kept. AreResponsesOf setup.now kept.responses) }
-    {
-        let testers = no_frames(alloc, setup.testers())?;
-        let responses = ResponseIds::new(alloc, setup)?;
-        Ok(Comparisons {
-            lines: 0,
-            testers,
-            responses,
-        })
     }
 
     /// How many frames of a tester were recorded.
@@ -419,7 +400,13 @@ impl Sink for Comparisons {
     ghost wants_ticks = { false };
 
     fn begin(&mut self, alloc: Global, setup: &Setup) -> Result<(), AllocError> {
-        *self = Comparisons::of(alloc, setup)?;
+        let testers = no_frames(alloc, setup.testers())?;
+        let responses = ResponseIds::new(alloc, setup)?;
+        *self = Comparisons {
+            lines: 0,
+            testers,
+            responses,
+        };
         Ok(())
     }
 

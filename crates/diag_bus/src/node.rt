@@ -32,7 +32,7 @@ pub struct Node {
     pub server: Server,
     /// The frames that each tester is sent with the line.
     pub drawn: LineFrames,
-    /// So many ticks at least no port does anything before the last of them.
+    /// For at least so many ticks no port does anything before the last.
     pub rest: u64,
 }
 
@@ -101,8 +101,7 @@ impl Node {
         Ok(())
     }
 
-    /// Whether no port does anything before the last of so many ticks. For how long is looked at anew, where it isn't known to
-    /// be so long.
+    /// Whether no port does anything before the last of so many ticks. Where `rest` doesn't say so, the ports are asked again.
     #[inline(always)]
     fn is_quiet(&mut self, ms: u64) -> bool
         requires { IsRest self.old.server self.old.rest }
@@ -263,7 +262,7 @@ impl Node {
             Owner::Nobody => Ok(()),
             Owner::Tester(who) => self.give(who, &LentEvent::physical(bytes.copy()), sink),
             Owner::Functional => {
-                // (copied: what a call borrows lies in memory, and then would for a tester's own frame too)
+                // (a copy: what is borrowed is put into memory, and a tester's own frame would pay for that too)
                 let lent = bytes.copy();
                 let event = LentEvent::functional(lent.copy());
                 self.give_functional(setup, ids, id, &lent, &event, sink)
@@ -271,8 +270,8 @@ impl Node {
         }
     }
 
-    /// Gives the server a functional frame of these bytes, an event: it is for each tester that has this functional
-    /// identifier, in order.
+    /// Gives the server the event of a functional frame with this identifier: it is for each tester whose functional identifier
+    /// that is, in order.
     #[inline(never)]
     fn give_functional<S: Sink>(
         &mut self,
@@ -291,7 +290,7 @@ impl Node {
         ensures { Passed S.took (StaysFor S.is_for S.aim) self.old sink.old self.new sink.new 0
             (functional_to_all setup.now id (length setup.now.testers) bytes.now) result }
     {
-        // (for its contract: the event is of these)
+        // (for its contract: they are the event's)
         let _ = bytes;
         for index in 0..setup.testers() {
             let who = setup.who(index);

@@ -88,8 +88,8 @@ pub trait Sink: Drop {
         ensures entered { OnOk result (Enters took self.old self.new ecu.now before (entry_of_ticks who count)) }
         ensures stays { StaysFor is_for aim self.old self.new };
 
-    /// Takes the end of a line that says this, by which so many milliseconds passed and behind which the clock is this, with
-    /// the frames that it draws; adds what it writes.
+    /// Takes the end of a line: what it said, the milliseconds it took, the clock behind it, and the frames that it draws; adds
+    /// what it writes.
     ///
     /// # Errors
     /// `AllocError` where memory is refused: the text is as it was, and of what it took nothing is said then.

@@ -3,7 +3,7 @@
 ghost use Rattle.std.specs.Prelude.{◌≡◌, ◌<◌, ◌≤◌, ◌⊎◌, ℕ, List, [], ◌∷◌, ◌++◌, length, slice_get, Some, Ok, IsOk, IfErr, OnOk};
 ghost use Rattle.hex.specs.Hex.{decode_of};
 ghost use Rattle.diag_can.specs.Event as event;
-ghost use Rattle.diag_can.specs.EventLog.{FitsIn, event_in};
+ghost use Rattle.diag_can.specs.EventLog.{FitsIn, IsRefused, event_in};
 ghost use Rattle.diag_can.specs.Line.{addressed};
 ghost use Rattle.diag_can.specs.Log.{most_events};
 
@@ -109,9 +109,7 @@ impl Log {
         requires short { FitsIn [] kept }
         ensures ok { OnOk result (self.new.items ≡ self.old.items ++ event_in [] kept ∷ []) }
         ensures room { OnOk result (length self.old.items < most_events) }
-        ensures err { IfErr result (λ limit.
-            ((limit ≡ Limit.Events) × (most_events ≤ length self.old.items))
-            ⊎ ((limit ≡ Limit.Memory) × (length self.old.items < most_events))) }
+        ensures err { IfErr result (IsRefused self.old.items) }
     {
         self.find_room()?;
         match self.events.push(kept) {
@@ -120,18 +118,16 @@ impl Log {
         }
     }
 
-    /// Adds that many ticks. That there are 1,000,000 events is looked at first.
+    /// Adds that many ticks. A full log is refused before memory is asked for.
     pub(crate) fn push_ticks(&mut self, count: TickCount) -> Result<(), Limit>
         ensures ok { OnOk result (self.new.items ≡ self.old.items ++ event.Ticks count ∷ []) }
         ensures room { OnOk result (length self.old.items < most_events) }
-        ensures err { IfErr result (λ limit.
-            ((limit ≡ Limit.Events) × (most_events ≤ length self.old.items))
-            ⊎ ((limit ≡ Limit.Memory) × (length self.old.items < most_events))) }
+        ensures err { IfErr result (IsRefused self.old.items) }
     {
         self.push(KeptEvent::Ticks(count))
     }
 
-    /// Adds a frame. That there are 1,000,000 events is looked at first.
+    /// Adds a frame. A full log is refused before memory is asked for.
     #[inline(always)]
     pub(crate) fn push_frame(
         &mut self,
@@ -140,9 +136,7 @@ impl Log {
     ) -> Result<(), Limit>
         ensures ok { OnOk result (self.new.items ≡ self.old.items ++ addressed addressing frame.now.bytes ∷ []) }
         ensures room { OnOk result (length self.old.items < most_events) }
-        ensures err { IfErr result (λ limit.
-            ((limit ≡ Limit.Events) × (most_events ≤ length self.old.items))
-            ⊎ ((limit ≡ Limit.Memory) × (length self.old.items < most_events))) }
+        ensures err { IfErr result (IsRefused self.old.items) }
     {
         if frame.is_long() {
             return self.push_long(addressing, frame);
@@ -159,9 +153,7 @@ impl Log {
         requires long { 8 < length frame.now.bytes }
         ensures ok { OnOk result (self.new.items ≡ self.old.items ++ addressed addressing frame.now.bytes ∷ []) }
         ensures room { OnOk result (length self.old.items < most_events) }
-        ensures err { IfErr result (λ limit.
-            ((limit ≡ Limit.Events) × (most_events ≤ length self.old.items))
-            ⊎ ((limit ≡ Limit.Memory) × (length self.old.items < most_events))) }
+        ensures err { IfErr result (IsRefused self.old.items) }
     {
         self.find_room()?;
         match self.add_digits(addressing, frame.digits()) {

@@ -2,7 +2,6 @@
 
 ghost use Rattle.std.specs.Prelude.{◌≡◌, ◌≤◌, ◌<◌, ◌++◌, ◌+◌, ◌-◌, [], ◌∷◌, length, replicate};
 
-use crate::frame::FrameBytes;
 use std::marker::Model;
 
 /// The data bytes of a frame, at most 64: of a CAN FD frame, or of a classic one. Nearly all frames are classic, for which
@@ -42,28 +41,6 @@ impl FdBytes {
         let mut all = FdBytes::new();
         all.append(bytes);
         all
-    }
-
-    /// The bytes of a classic frame.
-    pub fn of_short(frame: &FrameBytes) -> FdBytes
-        ensures { result ≡ frame.now }
-    {
-        let mut bytes = [0; 64];
-        bytes[..8].copy_from_slice(frame.places());
-        FdBytes {
-            bytes,
-            len: frame.len(),
-        }
-    }
-
-    /// The same bytes.
-    pub fn copy(&self) -> FdBytes
-        ensures { result ≡ self.now }
-    {
-        FdBytes {
-            bytes: self.bytes,
-            len: self.len,
-        }
     }
 
     /// Takes all bytes out.

@@ -96,8 +96,8 @@ impl<'a> FrameText<'a> {
     }
 }
 
-/// The bytes that the last sixteen bytes of a text write, looked at together; as far as these are hex digits from the end. They
-/// are answered as a word, the first byte lowest: bytes would lie in memory.
+/// Decodes the last sixteen characters of a text at once; only the digits at its end count. It returns a word, the first byte
+/// lowest, since an array would go through memory.
 #[inline(always)]
 fn last_eight(text: &[u8]) -> u64
     ensures { IsLastEight text.now (to_le_bytes w64 result) }
@@ -122,7 +122,7 @@ fn eight_of_few(text: &[u8]) -> u64
 
 impl FdBytes {
     /// Becomes the bytes that hex digits write, up to 64: those of sixteen digits are looked at together, and so are those of the
-    /// digits that are left. (In its place, for what is written by eight bytes is slow to move by sixteen.)
+    /// digits that are left. (Made where it stays: moved by sixteen bytes right after it is written by eight, it would stall.)
     #[cold]
     #[inline(never)]
     pub fn set_digits(&mut self, digits: &[u8])

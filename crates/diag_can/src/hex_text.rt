@@ -41,8 +41,8 @@ pub fn add_hex(text: &mut Vec<u8>, bytes: &[u8])
     }
 }
 
-/// Appends four to eight bytes in upper-case hex, where there is room for them: the first four, of which what is too much
-/// is taken back, and then the last four.
+/// Appends four to eight bytes in upper-case hex, where there is room for them: writes the first four, cuts what the last four
+/// write again, and writes those.
 #[inline(always)]
 fn add_ends(text: &mut Vec<u8>, bytes: &[u8])
     requires some { 4 ≤ length bytes.now }

@@ -80,12 +80,4 @@ impl<'a> LentEvent<'a> {
             EventKind::Ticks(count) => EventKind::Ticks(*count),
         }
     }
-
-    /// The same event.
-    #[inline(always)]
-    pub fn copy(&self) -> LentEvent<'a>
-        ensures { result ≡ self.now }
-    {
-        LentEvent { kind: self.kind() }
-    }
 }

@@ -62,7 +62,7 @@ impl LogReader {
     /// them. Behind a fault nothing is looked at, and all is taken.
     ///
     /// # Errors
-    /// `AllocError` where memory is refused, which is asked for an event and its bytes alone: the reader can take no more then.
+    /// `AllocError` where memory is refused: it is asked for an event and its bytes only. The reader can't go on then.
     pub fn take_lines<'a>(
         &mut self,
         ids: &Ids,
@@ -125,8 +125,8 @@ impl LogReader {
         Ok(rest)
     }
 
-    /// Takes the line that comes next, by what it says. (That decides at once, so that the lines of each front go on by
-    /// themselves.)
+    /// Takes the line that comes next, by what it says. (It matches on that at once, so that the compiler doesn't join the ways of
+    /// frames and of ticks.)
     #[inline(always)]
     fn take_said(&mut self, ids: &Ids, timing: Timing, said: &BusLine) -> Result<(), Limit>
         requires { (past : List (List ℕ)) × AreRead ids.now timing self.old past }

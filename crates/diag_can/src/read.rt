@@ -130,7 +130,7 @@ impl Addressing {
     }
 }
 
-/// The frame, where it is one to the tester of these identifiers, and which of them it has. Its bytes aren't decoded yet.
+/// The frame, if it has the tester's request identifier or the functional one, and which of the two. Its bytes aren't decoded yet.
 #[inline(always)]
 pub fn frame_for<'f, 'a>(
     frame: &'f Option<FrameText<'a>>,

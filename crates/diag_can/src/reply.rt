@@ -72,22 +72,9 @@ fn add_stamp(text: &mut Vec<u8>, at: u64)
     ensures len { vec_len text.new ≤ vec_len text.old + 32 }
     ensures capacity { vec_capacity text.new ≡ vec_capacity text.old }
 {
-    if at / 1000 < TEN_DIGITS {
-        add_short_stamp(text, at);
-    } else {
-        add_long_stamp(text, at);
+    if at / 1000 >= TEN_DIGITS {
+        return add_long_stamp(text, at);
     }
-}
-
-/// The stamp of a time with ten digits of seconds, and a space, where there is room.
-#[inline(always)]
-fn add_short_stamp(text: &mut Vec<u8>, at: u64)
-    requires early { at / 1000 < 10 ^ 10 }
-    requires room { vec_len text.old + 32 ≤ vec_capacity text.old }
-    ensures items { text.new.items ≡ text.old.items ++ (stamp at ++ codes " ") }
-    ensures len { vec_len text.new ≤ vec_len text.old + 32 }
-    ensures capacity { vec_capacity text.new ≡ vec_capacity text.old }
-{
     add(text, &seconds_text(at / 1000));
     add(text, &thousandths_text(at % 1000));
 }

@@ -29,7 +29,7 @@ pub fn text_place(line: &[u8]) -> Option<usize>
     if line.len() < SHORTEST {
         return None;
     }
-    // Both looks are asked about at once: hardly a line passes only one of them.
+    // One branch for both tests: hardly any line passes just one.
     let is_front = is_within(line, 0, b"(0000000000.0000", b"(9999999999.9999");
     let is_back = is_within(line, 4, b"0000000.000000) ", b"9999999.999999) ");
     if !(is_front & is_back) {

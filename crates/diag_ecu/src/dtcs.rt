@@ -2,7 +2,7 @@
 //! 9.9).
 ghost use Rattle.std.specs.Prelude.{◌<◌, drop, ◌∷◌, [], ◌≡◌, ◌≤◌, ◌+◌, ◌++◌, ◌==◌, length, flat_map, OnOk, IfOk};
 ghost use Rattle.diag_setup.specs.Setup.{first_holding};
-ghost use Rattle.diag_store.specs.Dtcs.{is_known_group, matching, cleared};
+ghost use Rattle.diag_store.specs.Dtcs.{matching, cleared};
 ghost use Rattle.diag_ecu.specs.Bytes as spec;
 ghost use Rattle.diag_ecu.specs.Respond.{sub, clear_checks, setting_checks, report, dtc_reply, counted_reply, all_reply};
 
@@ -20,7 +20,8 @@ impl Ecu {
         requires { 4 ≤ length p.now }
         ensures { result ≡ first_holding (clear_checks self.now p.now) }
     {
-        if self.knows_group(number_24(p, 1)) {
+        let group = number_24(p, 1);
+        if group == ALL_GROUPS || self.dtcs.status(group).is_some() {
             None
         } else {
             Some(Nrc::RequestOutOfRange)
@@ -41,12 +42,6 @@ impl Ecu {
         ensures { self.new ≡ record self.old { dtc_setting_on = sub p.now == 0x01 } }
     {
         self.dtc_setting_on = sub_of(p) == 0x01;
-    }
-
-    fn knows_group(&self, group: u32) -> bool
-        ensures { result ≡ is_known_group self.now.dtcs group }
-    {
-        group == ALL_GROUPS || self.dtcs.status(group).is_some()
     }
 }
 

@@ -36,7 +36,7 @@ pub struct Ecu {
     pub(crate) answers: Answers,
 }
 
-// Written out, so that a function which lets an ECU go makes one call, and doesn't go through all that it owns.
+// Written out: where an ECU is dropped there is one call then, and not the code for each field.
 impl Drop for Ecu {
     fn drop(self) {
         let Ecu {
@@ -417,7 +417,7 @@ impl Ecu {
         ensures { self.new ≡ effect self.old who service p.now }
     {
         match service {
-            Service::DiagnosticSessionControl => self.control_session(who, p),
+            Service::DiagnosticSessionControl => self.enter(who, sub_of(p)),
             Service::EcuReset => self.end_session(),
             Service::ClearDiagnosticInformation => self.clear(p),
             Service::SecurityAccess => self.access_security(who, p),

@@ -158,8 +158,8 @@ impl Ecu {
         Ok(())
     }
 
-    /// The same of a value for which the reply takes memory. (Called, so that its parts lie in no memory of the caller's; it
-    /// calls nothing once it has memory, so that the list moves from registers.)
+    /// The same of a value for which the reply takes memory. (Not inlined, to spare the caller's stack. It calls nothing once it
+    /// has memory, so that the list is still in registers when it is moved.)
     #[inline(never)]
     fn put_long_value(
         &self,

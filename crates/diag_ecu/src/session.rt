@@ -1,8 +1,8 @@
 //! DiagnosticSessionControl, ECUReset and TesterPresent (ISO 14229-1:2013, 9.2, 9.3 and 9.6).
-ghost use Rattle.std.specs.Prelude.{◌≡◌, IfNone, if◌then◌else◌};
+ghost use Rattle.std.specs.Prelude.{◌≡◌, IfNone};
 ghost use Rattle.diag_setup.specs.Setup.{first_holding};
-ghost use Rattle.diag_ecu.specs.Respond.{checks, positive_reply, sent_positive, sub};
-ghost use Rattle.diag_ecu.specs.State.{entered, is_holder, session_of, session_ended};
+ghost use Rattle.diag_ecu.specs.Respond.{checks, positive_reply, sent_positive};
+ghost use Rattle.diag_ecu.specs.State.{entered, session_of, session_ended};
 
 use crate::bytes::{bytes_16, sub_of};
 use crate::ecu::{Ecu, say};
@@ -59,13 +59,6 @@ impl Ecu {
         None
     }
 
-    /// Goes to the session that session control names.
-    pub(crate) fn control_session(&mut self, who: TesterId, p: &[u8])
-        ensures { self.new ≡ entered self.old who (sub p.now) }
-    {
-        self.enter(who, sub_of(p));
-    }
-
     /// Goes to a session, or to none where it is 0. The default one ends that of the holder; who enters another finds all
     /// locked.
     pub(crate) fn enter(&mut self, who: TesterId, session: u8)
@@ -73,23 +66,17 @@ impl Ecu {
     {
         match session {
             0 => {}
-            DEFAULT_SESSION => self.leave(who),
+            DEFAULT_SESSION => {
+                if self.is_holder(who) {
+                    self.end_session();
+                }
+            }
             _ => {
                 self.security.lock();
                 self.holder = Some(who);
                 self.session = session;
                 self.s3_left = u64::from(self.values.s3_ms);
             }
-        }
-    }
-
-    /// Ends the session of the tester, where it is the holder.
-    fn leave(&mut self, who: TesterId)
-        ensures { self.new
-            ≡ (if is_holder self.old who then session_ended self.old else self.old) }
-    {
-        if self.is_holder(who) {
-            self.end_session();
         }
     }
 

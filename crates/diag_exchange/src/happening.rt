@@ -112,7 +112,7 @@ fn copy_of(alloc: Global, message: Option<&Message>) -> Result<Option<Message>, 
     }
 }
 
-/// Becomes a message of the same bytes, where there is one. (Where there was none before, nothing is written for none.)
+/// Becomes a message of the same bytes, or none. (None where there was none writes nothing.)
 #[inline(always)]
 fn set_copy(place: &mut Option<Message>, message: Option<&Message>) -> Result<(), AllocError>
     ensures { OnOk result (place.new ≡ option_copied message.entry) }

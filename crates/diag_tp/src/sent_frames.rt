@@ -260,8 +260,22 @@ fn push_lengthened(list: &mut Vec<LongSent>, at: u64, id: CanId, bytes: FrameByt
     list.push_reserved(LongSent {
         at,
         id,
-        bytes: FdBytes::of_short(&bytes),
+        bytes: long_of(bytes.as_slice()),
     });
+}
+
+/// Bytes of a classic frame where longer ones have room, too. (Most are eight, which are moved together.)
+#[inline(always)]
+fn long_of(bytes: &[u8]) -> FdBytes
+    requires { length bytes.now ≤ 64 }
+    ensures { result ≡ bytes.now }
+{
+    let mut long = FdBytes::new();
+    match bytes.as_array::<8>() {
+        Some(eight) => long.append(eight),
+        None => long.append(bytes),
+    }
+    long
 }
 
 /// Adds the next frame that is due of a link, which goes at this time.

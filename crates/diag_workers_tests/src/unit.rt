@@ -92,7 +92,7 @@ struct Recorder {
 
 impl Driver for Recorder {
     fn send(&mut self, id: CanId, bytes: &FdBytes) {
-        let bytes = bytes.copy();
+        let bytes = FdBytes::from_slice(bytes.as_slice());
         if self.frames.push(Kept { id, bytes }).is_err() {
             self.is_refused = true;
         }
