@@ -4,10 +4,12 @@ seed. The first line of `check` begins with the fault that a run tells, and name
 `check` finds no fault, and its status says which. Each line of `check` tells the line of the setup on which the key or the
 table was written here, and none where that isn't plain. Of rows of answers it says which never apply, for nothing leads to
 their session, or an earlier one takes all of their requests: those, and no others, for which no request of a few bytes says
-otherwise; and which are for session 3 where 10 83 alone leads there.
+otherwise; and which are for session 3 where 10 83 alone leads there. Of lists of patterns and templates it tells each item that
+is none. A byte order mark changes nothing of what it says.
 The last line is 'N passed, M failed'."""
 import copy
 import functools
+import glob
 import itertools
 import os
 import random
@@ -16,7 +18,7 @@ import subprocess
 import sys
 import tempfile
 
-from harness import PROGRAM, Tally
+from harness import PROGRAM, TOP, Tally
 
 FAULTS = ("syntax", "missing ", "bad value ", "range", "empty", "duplicate", "unknown code", "unknown level", "too long")
 UNIT = (
@@ -45,6 +47,12 @@ ROW_SETUPS = 300
 TAKEN = re.compile(r"(?:line \d+: )?request of \[\[answer\]\] (\d+) is .*: the row never applies, for \[\[answer\]\] (\d+) with ")
 UNREACHED = re.compile(r"(?:line \d+: )?session of \[\[answer\]\] (\d+) is \d+: the row never applies, for nothing leads to session ")
 QUIET = re.compile(r"(?:line \d+: )?session of \[\[answer\]\] (\d+) is 3: 10 83 alone leads to session 3, ")
+# an item of a list of texts that is none, by its key and its number; what an item of each may be, and some that may be none
+BAD_ITEM = re.compile(r"(?:line \d+: )?bad value (ignore|answer\.reply): (?:ignore|reply of \[\[answer\]\] 1) has as number (\d+) ")
+ITEM_FORMS = {"ignore": re.compile(r"(?:[0-9A-Fa-f]{2}|\.\.)+\*?"), "answer.reply": re.compile(r"(?:[0-9A-Fa-f]{2}|\$[0-9A-Fa-f]|\?\?)*")}
+LIST_ITEMS = ("3E80", "22*", "2e..", "62$F", "??", "", "2", "*", "2G", "3E 80", "0x3E", 5, True, 1.5, ["22"], {"a": 1})
+LIST_SETUPS = 100
+MARK = b"\xef\xbb\xbf"
 UNPLACED = "the look at the setup found another first"
 SEVERAL = 400
 # what a line of `check` tells of: a key or, where one is missing, a table
@@ -89,8 +97,8 @@ ODD = (-1, 4294967296, 1.5, "text", "0", "0 ", True, [], [1], {"a": 1})
 BORDERS = (0, 1, 2, 7, 8, 64, 65, 66, 67, 126, 127, 128, 240, 241, 249, 250, 255, 256, 2047, 2048, 60000, 60001, 65535, 65536, 600000, 600001, 16777214, 16777215, 536870911, 536870912, 4294967295)
 # spoilt as texts: what stands before the good setup
 BEFORE = {
-    "a byte order mark": b"\xef\xbb\xbf",
-    "two byte order marks": b"\xef\xbb\xbf" * 2,
+    "a byte order mark": MARK,
+    "two byte order marks": MARK * 2,
     "no toml": b"a = \n",
     "no UTF-8": b"# \xff\n",
     "too long": b"#" * (1 << 20) + b"\n",
@@ -343,6 +351,42 @@ def compare(folder, name, written, before=b""):
     told(good and wrong is None, name, f"a run says {run!r}, the look at it {wrong or check.stdout[:300]!r}\n{data.decode(errors='replace')}")
 
 
+def compare_marked(folder, name, data):
+    """Whether `check` says the same of a setup with a byte order mark before it."""
+    path, said = os.path.join(folder, "setup.toml"), []
+    for before in (b"", MARK):
+        with open(path, "wb") as file:
+            file.write(before + data)
+        check = ran("check", path)
+        said.append((check.returncode, check.stdout, check.stderr))
+    told(said[0] == said[1], f"{name} behind a byte order mark", f"{said[0]} without it, {said[1]}")
+
+
+def unmarked():
+    """The setups of runs/words that are UTF-8 without a byte order mark, by their paths."""
+    for path in sorted(glob.glob(f"{TOP}/runs/words/**/*.toml", recursive=True)):
+        with open(path, "rb") as file:
+            data = file.read()
+        if data == data.decode(errors="ignore").encode() and not data.startswith(MARK):
+            yield path, data
+
+
+def compare_items(folder, lists):
+    """Whether `check` tells of each item of these lists that is no pattern, or no template, by its number, in order."""
+    path = os.path.join(folder, "setup.toml")
+    tree = {**GOOD, "ignore": lists["ignore"], "answer": [{"request": "22" * 16, "reply": lists["answer.reply"]}]}
+    with open(path, "w", encoding="utf-8") as file:
+        file.writelines(f"{key} = {value_text(value)}\n" for key, value in tree.items())
+    check = ran("check", path)
+    found = [(it[1], int(it[2])) for it in map(BAD_ITEM.match, check.stdout.splitlines()) if it]
+    want = [(key, number) for key, items in lists.items() for number, it in enumerate(items, 1) if not is_item(key, it)]
+    told(found == want, "items", f"{lists}: {want} wanted, {check.stdout!r}")
+
+
+def is_item(key, item):
+    return isinstance(item, str) and ITEM_FORMS[key].fullmatch(item) is not None
+
+
 def random_row(chance):
     pattern = "".join(chance.choice(ITEMS) for _ in range(chance.randint(1, 3))) + chance.choice(("", "*"))
     if chance.random() < 0.4:
@@ -432,6 +476,13 @@ def main():
             compare(folder, some, Written(spoilt(some), chance))
         for _ in range(ROW_SETUPS):
             compare_rows(folder, [random_row(chance) for _ in range(4)])
+        for _ in range(LIST_SETUPS):
+            compare_items(folder, {key: chance.choices(LIST_ITEMS, k=chance.randint(1, 6)) for key in ITEM_FORMS})
+        for name, before in BEFORE.items():
+            if not before.startswith(MARK):
+                compare_marked(folder, name, before + Written(GOOD, chance).data())
+        for path, data in unmarked():
+            compare_marked(folder, os.path.relpath(path, TOP), data)
     return told.ended()
 
 

@@ -191,10 +191,10 @@ def try_examples(commands):
             told(parts["Example"] != [] and done.returncode == (8 if name in ("verify", "compare") else 0) and "note:" not in done.stderr, f"the example of {name}", done)
 
 
-def shown(words):
-    """What the program writes to a terminal as its standard error, and its status."""
+def shown(words, is_written=False):
+    """What the program writes to a terminal as its standard error, and as its standard output where it is written there; its status."""
     terminal, end = pty.openpty()
-    child = subprocess.Popen([PROGRAM, *words], stdin=subprocess.DEVNULL, stdout=subprocess.DEVNULL, stderr=end)
+    child = subprocess.Popen([PROGRAM, *words], stdin=subprocess.DEVNULL, stdout=end if is_written else subprocess.DEVNULL, stderr=end)
     os.close(end)
     pieces = []
     with os.fdopen(terminal, "rb", buffering=0) as screen:
@@ -226,6 +226,22 @@ def try_terminal():
         told(status == 3 and "\x1b" not in text, "a terminal shows nothing with --quiet", (text, status))
         text, status = shown(["bus", setup, f"{TOP}/demo/bus.log"])
         told((text, status) == ("", 0), "a terminal shows nothing of a short run", (text, status))
+        # one line of a thousand years, which all testers pass minute by minute
+        with open(path, "w", encoding="ascii") as file:
+            file.write("(0.000000) can0 123#\n(50000000000.000000) can0 123#\n")
+        text, status = shown(["verify", setup, path], is_written=True)
+        result = "".join(rf"{name} 0 frames agree\r\n" for name in ("workshop", "end_of_line"))
+        told(status == 9 and re.match(rf"(\r[^\r\n]*\x1b\[K)+\r\x1b\[K{result}nothing compared\r\n", text), "what is written at the end stands by itself", (text, status))
+
+
+def try_folder():
+    """Standard input that can't be read is told with the system's reason."""
+    with tempfile.TemporaryDirectory() as folder:
+        folder = os.open(folder, os.O_RDONLY)
+        done = subprocess.run([PROGRAM, "bus", f"{TOP}/demo/setup.toml"], stdin=folder, capture_output=True, text=True, timeout=60)
+        os.close(folder)
+    text = "uds_play: cannot read file 1\nuds_play: note: standard input: Is a directory (os error 21)\n"
+    told((done.stderr, done.returncode) == (text, 7), "why standard input can't be read", done)
 
 
 def main():
@@ -246,6 +262,7 @@ def main():
     try_completion()
     try_examples(commands)
     try_terminal()
+    try_folder()
     return told.ended()
 
 

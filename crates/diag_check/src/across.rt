@@ -108,19 +108,20 @@ impl Look<'_> {
         self.templates(answer, row)
     }
 
-    /// Tells of a template that names a byte beyond its pattern.
+    /// Tells of each template that names a byte beyond its pattern.
     fn templates(&mut self, answer: &Tree, row: Row) -> Result<(), AllocError> {
         let Some(count) = answer.get("request").and_then(pattern_items) else {
             return Ok(());
         };
-        for template in list_at(answer, "reply") {
+        for (position, template) in list_at(answer, "reply").iter().enumerate() {
             let index = greatest_index(template);
             if index.is_some_and(|index| index as usize >= count) {
+                let number = position.saturating_add(1);
                 let shown = Shown(template);
                 let place = format!(in self.alloc;
-                    "reply{row} has {shown}, which names a byte that its pattern of {count} items doesn't have: they count from $0"
+                    "reply{row} has as number {number} {shown}, which names a byte that its pattern of {count} items doesn't have: they count from $0"
                 )?;
-                return self.refuse(SetupFault::Range, row.key("reply"), place);
+                self.refuse(SetupFault::Range, row.key("reply"), place)?;
             }
         }
         Ok(())

@@ -100,8 +100,8 @@ impl<'a> Look<'a> {
                 self.key(tree, key, row)?;
             }
         }
-        for (name, _) in tree.iter() {
-            self.name(tree, name.as_str(), row)?;
+        for (name, value) in tree.iter() {
+            self.name(tree, name.as_str(), value, row)?;
         }
         Ok(())
     }
@@ -134,31 +134,52 @@ impl<'a> Look<'a> {
 
     /// Tells of a value of another kind than its key's.
     fn other_kind(&mut self, key: &Key, value: &Value, row: Row) -> Result<(), AllocError> {
+        if has_texts(key.kind) && value.is_array() {
+            return self.bad_items(key, value, row);
+        }
         let name = key.name;
-        let kind = key.kind;
-        let what = Wanted(kind);
-        let place = match bad_item(kind, value) {
-            Some((number, item)) => {
-                let shown = Shown(item);
-                let hint = item_hint(self.alloc, kind, item)?;
-                let hint = hint.as_str();
-                format!(in self.alloc; "{name}{row} has as number {number} {shown}: {what}{hint}")?
+        let what = Wanted(key.kind);
+        let shown = Shown(value);
+        let meant = Meant(key.kind, value);
+        let place = format!(in self.alloc; "{name}{row} is {shown}: {what}{meant}")?;
+        self.tell(ConfigFault::BadValue(key.path), row.key(name), place)
+    }
+
+    /// Tells of each item of a list of templates or patterns that is none.
+    fn bad_items(&mut self, key: &Key, value: &Value, row: Row) -> Result<(), AllocError> {
+        for (index, item) in items(value).iter().enumerate() {
+            if is_bad_item(key.kind, item) {
+                self.bad_item(key, item, index.saturating_add(1), row)?;
             }
-            None => {
-                let shown = Shown(value);
-                let meant = Meant(kind, value);
-                format!(in self.alloc; "{name}{row} is {shown}: {what}{meant}")?
-            }
-        };
+        }
+        Ok(())
+    }
+
+    /// Tells of the item of this number, from 1, of a key's list.
+    fn bad_item(
+        &mut self,
+        key: &Key,
+        item: &Value,
+        number: usize,
+        row: Row,
+    ) -> Result<(), AllocError> {
+        let name = key.name;
+        let what = Wanted(key.kind);
+        let shown = Shown(item);
+        let hint = item_hint(self.alloc, key.kind, item)?;
+        let hint = hint.as_str();
+        let place = format!(in self.alloc;
+            "{name}{row} has as number {number} {shown}: {what}{hint}"
+        )?;
         self.tell(ConfigFault::BadValue(key.path), row.key(name), place)
     }
 
     /// Tells of a key that is passed over.
-    fn name(&mut self, tree: &Tree, name: &str, row: Row) -> Result<(), AllocError> {
+    fn name(&mut self, tree: &Tree, name: &str, value: &Value, row: Row) -> Result<(), AllocError> {
         if is_known(tree, name, row.table) {
             return Ok(());
         }
-        let hint = hint(self.alloc, name, row.table)?;
+        let hint = hint(self.alloc, name, value, row.table)?;
         let hint = hint.as_str();
         let shown = ShownKey(name);
         let text = format!(in self.alloc; "{shown}{row}: passed over{hint}")?;
@@ -265,19 +286,18 @@ fn phase(fault: ConfigFault) -> u8 {
     }
 }
 
-/// The first item of a list of templates or patterns that is none, and its number, from 1.
-fn bad_item(kind: Kind, value: &Value) -> Option<(usize, &Value)> {
-    for (index, item) in items(value).iter().enumerate() {
-        let is_bad = match kind {
-            Kind::Templates => !is_template(item),
-            Kind::Patterns => !is_pattern(item),
-            _ => false,
-        };
-        if is_bad {
-            return Some((index.saturating_add(1), item));
-        }
+/// Whether a key of a kind holds a list of texts.
+fn has_texts(kind: Kind) -> bool {
+    matches!(kind, Kind::Templates | Kind::Patterns)
+}
+
+/// Whether an item of a list of templates or patterns is none.
+fn is_bad_item(kind: Kind, item: &Value) -> bool {
+    match kind {
+        Kind::Templates => !is_template(item),
+        Kind::Patterns => !is_pattern(item),
+        _ => false,
     }
-    None
 }
 
 /// The items of the list at a key; none where it is no list.

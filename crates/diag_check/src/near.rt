@@ -3,6 +3,7 @@
 use crate::keys::{KEYS, Key, Need, Table};
 use std::alloc::{AllocError, Global};
 use strsim::osa_distance;
+use toml::Value;
 
 /// The longest name that is compared, in bytes.
 const MOST_COMPARED: usize = 32;
@@ -19,9 +20,9 @@ const WORDS: [(Table, &str, &str); 8] = [
     (Table::Level, "level", "sub"),
 ];
 
-/// What helps with a key of a table that is passed over: the key of this name there, but for the case of its letters, or
-/// what it is called there, else where a key of this name belongs, else the nearest one.
-pub fn hint(alloc: Global, name: &str, table: Table) -> Result<String, AllocError> {
+/// What helps with a key of a table that is passed over, and its value: the key of this name there, but for the case of its
+/// letters, or what it is called there, else where a key or tables of this name belong, else the nearest one.
+pub fn hint(alloc: Global, name: &str, value: &Value, table: Table) -> Result<String, AllocError> {
     let lower = name.to_ascii_lowercase(alloc)?;
     let lower = lower.as_str();
     let own = KEYS
@@ -30,6 +31,9 @@ pub fn hint(alloc: Global, name: &str, table: Table) -> Result<String, AllocErro
     if let Some(key) = own {
         return own_hint(alloc, key, name);
     }
+    if let (Some(key), true) = (list_named(lower), may_be_tables(value)) {
+        return list_hint(alloc, key);
+    }
     if let (Table::Did, "level") = (table, lower) {
         return format!(in alloc; "; read_level or write_level?");
     }
@@ -37,17 +41,53 @@ pub fn hint(alloc: Global, name: &str, table: Table) -> Result<String, AllocErro
         return format!(in alloc; "; {own}?");
     }
     if is_of_unit(lower) {
-        return format!(in alloc; "; it belongs to the whole unit, before the first [[..]]");
+        return unit_hint(alloc, lower);
     }
     let owners = owners(alloc, lower)?;
     if !owners.is_empty() {
         let owners = owners.as_str();
         return format!(in alloc; "; it belongs to {owners}");
     }
-    if let Some(near) = nearest(alloc, lower, table)? {
+    match list_named(lower) {
+        Some(key) => list_hint(alloc, key),
+        None => near_hint(alloc, lower, table),
+    }
+}
+
+/// Whether a value may be meant as the tables of a list.
+fn may_be_tables(value: &Value) -> bool {
+    value.is_table() || value.is_array()
+}
+
+/// The key of this name that holds a list of tables.
+fn list_named(name: &str) -> Option<&'static Key> {
+    KEYS.iter().find(|key| key.is_list() && key.name == name)
+}
+
+/// Where the tables of a list belong.
+fn list_hint(alloc: Global, key: &Key) -> Result<String, AllocError> {
+    let path = key.path;
+    let owner = key.table.path();
+    match key.table {
+        Table::Unit => format!(in alloc; "; it belongs to the whole unit, as [[{path}]]"),
+        _ => format!(in alloc; "; it belongs to [[{owner}]], as [[{path}]]"),
+    }
+}
+
+/// Where a key belongs that the whole unit has, and maybe tables of a list, too.
+fn unit_hint(alloc: Global, name: &str) -> Result<String, AllocError> {
+    let owners = owners(alloc, name)?;
+    let joint = if owners.is_empty() { "" } else { ", or to " };
+    let owners = owners.as_str();
+    format!(in alloc; "; it belongs to the whole unit, before the first [[..]]{joint}{owners}")
+}
+
+/// The nearest key of a table, else one of the whole unit that begins so.
+fn near_hint(alloc: Global, name: &str, table: Table) -> Result<String, AllocError> {
+    if let Some(near) = nearest(alloc, name, table)? {
         return format!(in alloc; "; {near}?");
     }
-    match begun(lower, Table::Unit) {
+    match begun(name, Table::Unit) {
         Some(own) => {
             format!(in alloc; "; {own}? it belongs to the whole unit, before the first [[..]]")
         }
@@ -93,11 +133,11 @@ fn is_of_unit(name: &str) -> bool {
     KEYS.iter().any(|key| key.table == Table::Unit && key.name == name && !key.is_list())
 }
 
-/// The lists whose tables have a key of this name, as `[[did]] or [[routine]]`; empty where none has.
+/// The lists whose tables have a key of this name that is no list, as `[[did]] or [[routine]]`; empty where none has.
 fn owners(alloc: Global, name: &str) -> Result<String, AllocError> {
     let mut owners = String::new(alloc);
     for key in &KEYS {
-        if key.table != Table::Unit && key.name == name {
+        if key.table != Table::Unit && key.name == name && !key.is_list() {
             let joint = if owners.is_empty() { "" } else { " or " };
             let path = key.table.path();
             write!(owners, "{joint}[[{path}]]")?;

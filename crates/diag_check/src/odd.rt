@@ -2,7 +2,8 @@
 
 use crate::finding::Row;
 use crate::look::{Look, list_at};
-use crate::pairs::{is_extended, is_fd, number_at};
+use crate::pairs::{FUNCTIONAL_EXTENDED, is_extended, is_fd, number_at};
+use crate::value::number;
 use std::alloc::AllocError;
 use toml::{Table as Tree, Value};
 
@@ -11,6 +12,12 @@ const PARTNER: u32 = 8;
 
 /// The first two bytes of a request to one ECU in normal fixed addressing.
 const FIXED: (u8, u8) = (0x18, 0xDA);
+
+/// The same of a request to all ECUs.
+const FIXED_FUNCTIONAL: (u8, u8) = (0x18, 0xDB);
+
+/// The address of a tester in these (ISO 15765-4).
+const TESTER: u8 = 0xF1;
 
 /// What decimal numbers of three digits look like an identifier of diagnostics in hex.
 const LEAST_LOOK: u32 = 600;
@@ -57,9 +64,10 @@ impl Look<'_> {
         }
         let ids = (number_at(tester, "request"), number_at(tester, "response"));
         match ids {
-            (Some(request), Some(response)) if is_extended => self.fixed_pair(
-                request, response, row,
-            ),
+            (Some(request), Some(response)) if is_extended => {
+                self.fixed_pair(request, response, row)?;
+                self.fixed_source(tester, request, row)
+            }
             (Some(request), Some(response)) => self.pair(request, response, row),
             _ => Ok(()),
         }
@@ -87,6 +95,33 @@ impl Look<'_> {
                 "request{row} is 0x{request:X} and response 0x{response:X}: with normal fixed addressing it is 0x{partner:X}"
             )?;
             self.remark(row.key("request"), text)?;
+        }
+        Ok(())
+    }
+
+    /// A request of normal fixed addressing that is one to a tester, or whose functional identifier is another tester's.
+    fn fixed_source(&mut self, tester: &Tree, request: u32, row: Row) -> Result<(), AllocError> {
+        let [kind, format, target, source] = request.to_be_bytes();
+        if (kind, format) != FIXED {
+            return Ok(());
+        }
+        if target == TESTER && source != TESTER {
+            let text = format!(in self.alloc;
+                "request{row} is 0x{request:X}, which goes to a tester, {TESTER:X}: are request and response swapped?"
+            )?;
+            return self.remark(row.key("request"), text);
+        }
+        let (id, by) = match tester.get("functional") {
+            None => (FUNCTIONAL_EXTENDED, ", by default"),
+            Some(value) => (number(value).unwrap_or(0), ""),
+        };
+        let [kind, format, all, other] = id.to_be_bytes();
+        let own = u32::from_be_bytes([kind, format, all, source]);
+        if (kind, format) == FIXED_FUNCTIONAL && other != source {
+            let text = format!(in self.alloc;
+                "functional{row} is 0x{id:X}{by}, of another tester than request 0x{request:X}; 0x{own:X}?"
+            )?;
+            self.remark(row.key("functional"), text)?;
         }
         Ok(())
     }

@@ -13,7 +13,7 @@ use toml::{Table as Tree, Value};
 const FUNCTIONAL: u32 = 0x7DF;
 
 /// The same of 29 bits (ISO 15765-4).
-const FUNCTIONAL_EXTENDED: u32 = 0x18DB_33F1;
+pub const FUNCTIONAL_EXTENDED: u32 = 0x18DB_33F1;
 
 /// Where an identifier stood first: its key, and the number of its row.
 type Place = (&'static str, usize);
@@ -71,14 +71,14 @@ fn is_by_default(tree: &Tree, tester: &Tree) -> bool {
 }
 
 impl Look<'_> {
-    /// Identifiers, names and numbers that stand twice.
+    /// Names, numbers and identifiers that stand twice.
     pub fn doubles(&mut self, tree: &Tree) -> Result<(), AllocError> {
-        self.double_identifiers(tree)?;
         self.double_names(tree)?;
         self.double_numbers(tree, Table::Did, "id")?;
         self.double_numbers(tree, Table::Code, "code")?;
         self.double_numbers(tree, Table::Routine, "id")?;
-        self.double_numbers(tree, Table::Level, "sub")
+        self.double_numbers(tree, Table::Level, "sub")?;
+        self.double_identifiers(tree)
     }
 
     /// Two equal identifiers among all requests and responses, and one of these that is a functional one.

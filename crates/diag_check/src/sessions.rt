@@ -2,7 +2,7 @@
 
 use crate::finding::Row;
 use crate::keys::{MOST_ANSWERS, Table};
-use crate::look::Look;
+use crate::look::{Look, list_at};
 use crate::odd::is_never_met;
 use crate::pairs::number_at;
 use crate::rule::{Rule, byte_of, leave_to_server};
@@ -22,6 +22,11 @@ const MOST_SESSION: u32 = 126;
 
 /// The service that a session is asked for by: DiagnosticSessionControl.
 const CONTROL: u8 = 0x10;
+
+/// The first byte of its positive response, and that of every negative one.
+const GRANTED: u32 = 0x50;
+
+const REFUSED: u32 = 0x7F;
 
 /// The sub-functions by which the server is asked for its session: with bit 7 its answer isn't sent.
 pub const ASKED: &[u8] = &[0x03, 0x83];
@@ -201,7 +206,7 @@ impl Look<'_> {
         let mut text = format!(in self.alloc;
             "session{row} is {EXTENDED}: 10 83 alone leads to session {EXTENDED}, for 10 03 is answered by a row"
         )?;
-        if let Some(index) = rows.iter().position(|row| lacks_enter(row, EXTENDED)) {
+        if let Some(index) = rows.iter().position(|row| may_enter(row, EXTENDED)) {
             let other = index.saturating_add(1);
             write!(text, "; enter = {EXTENDED} in [[answer]] {other}?")?;
         }
@@ -231,7 +236,7 @@ impl Look<'_> {
         let mut text = format!(in self.alloc;
             "session{row} is {session}: the row never applies, for nothing leads to session {session}"
         )?;
-        let asked = rows.iter().position(|row| lacks_enter(row, session));
+        let asked = rows.iter().position(|row| may_enter(row, session));
         let is_entered = rows.iter().any(|row| enter_of(row) == session);
         match asked {
             Some(index) => {
@@ -256,8 +261,8 @@ impl Look<'_> {
     }
 }
 
-/// Whether a row answers the request for a session, and enters none.
-fn lacks_enter(row: &Value, session: u32) -> bool {
+/// Whether a row grants the request for a session, and enters none.
+fn may_enter(row: &Value, session: u32) -> bool {
     let Value::Table(row) = row else {
         return false;
     };
@@ -266,8 +271,29 @@ fn lacks_enter(row: &Value, session: u32) -> bool {
         .and_then(pattern_parts)
         .unwrap_or((b"", false));
     is_control(items, session)
-        && row.get("reply").is_some()
+        && grants(list_at(row, "reply"))
         && number_at(row, "enter").unwrap_or(0) == 0
+}
+
+/// Whether templates are positive responses to DiagnosticSessionControl, be it one of them alone, and none is negative.
+fn grants(templates: &[Value]) -> bool {
+    templates
+        .iter()
+        .any(|template| begins_with(template, GRANTED))
+        && !templates
+            .iter()
+            .any(|template| begins_with(template, REFUSED))
+}
+
+/// Whether a template begins with this byte.
+fn begins_with(template: &Value, byte: u32) -> bool {
+    match template {
+        Value::String(text) => match text.as_bytes() {
+            [high, low, ..] => byte_of(*high, *low) == Some(byte),
+            _ => false,
+        },
+        _ => false,
+    }
 }
 
 /// Whether the items of a pattern are those of DiagnosticSessionControl for a session.

@@ -9,18 +9,24 @@ use std::fmt;
 use std::fmt::InlineText;
 use toml::de::Error;
 
-/// The fault of a text that `toml` refuses: where, what `toml` says, and what helps.
+/// The fault of a text that `toml` refuses: where, what `toml` says, and what helps. A byte order mark at its beginning is no
+/// column.
 pub fn slip(alloc: Global, text: &str, error: &Error) -> Result<Finding, AllocError> {
     let told = format!(in alloc; "{error}")?;
     let (at, message) = told.as_str().split_once('\n').unwrap_or(("", ""));
     let at = at.strip_prefix("TOML parse error at line ").unwrap_or(at);
-    let (line, column) = at.split_once(", ").unwrap_or(("", ""));
+    let (line, column) = at.split_once(", column ").unwrap_or(("", ""));
+    let line = number(line);
+    let unmarked = text.strip_prefix('\u{FEFF}').unwrap_or(text);
+    let mark = text.len().saturating_sub(unmarked.len());
+    let before = usize::from(mark > 0 && line == Some(1));
+    let column = number(column).unwrap_or(1).saturating_sub(before).max(1);
     let message = message.trim_end();
-    let hint = Hint::of(text, start_of(error), message);
-    let place = format!(in alloc; "{column}: {message}{hint}")?;
+    let hint = Hint::of(unmarked, start_of(error).saturating_sub(mark), message);
+    let place = format!(in alloc; "column {column}: {message}{hint}")?;
     Ok(Finding {
         fault: ConfigFault::Syntax,
-        line: number(line),
+        line,
         place,
     })
 }
@@ -54,6 +60,8 @@ enum Hint<'a> {
     Quotes,
     /// More than a comment behind a value.
     Behind,
+    /// A CR where no LF follows.
+    LineEnd,
     /// A key that stands twice in the table of this list; of the whole unit its path is empty.
     Twice(&'static str),
     /// What a key wants, and what stands behind it.
@@ -64,14 +72,20 @@ enum Hint<'a> {
 impl<'a> Hint<'a> {
     /// What helps with a text that is no TOML from this byte on, of which `toml` says so.
     fn of(text: &'a str, start: usize, message: &str) -> Hint<'a> {
-        let (before, _) = text.split_at_checked(start).unwrap_or((text, ""));
+        let (before, behind) = text.split_at_checked(start).unwrap_or((text, ""));
         let (above, head) = before.rsplit_once('\n').unwrap_or(("", before));
         let line = line_behind(text, before.len().saturating_sub(head.len()));
         match other_format(text, line) {
             Some(hint) => hint,
+            None if begins_with_cr_alone(behind) => Hint::LineEnd,
             None => in_line(above, head, line, message),
         }
     }
+}
+
+/// Whether a text begins with a CR that no LF follows.
+fn begins_with_cr_alone(text: &str) -> bool {
+    text.starts_with('\r') && !text.starts_with("\r\n")
 }
 
 /// What a text is that isn't TOML as a whole; `line` is the first that isn't.
@@ -182,6 +196,7 @@ impl fmt::Display for Hint<'_> {
                 f,
                 "; behind a value stands nothing but a comment, which begins with #"
             ),
+            Hint::LineEnd => write!(f, "; a line ends with LF or CR LF, and not with CR alone"),
             Hint::Twice("") => write!(f, "; it stands above, too"),
             Hint::Twice(path) => write!(
                 f,

@@ -1,5 +1,6 @@
 //! What a value may be by its kind alone.
 
+use crate::finding::digits_of;
 use crate::keys::{Kind, MOST_CODE};
 use toml::Value;
 
@@ -52,13 +53,17 @@ pub fn pattern_parts(value: &Value) -> Option<(&[u8], bool)> {
     is_pattern.then_some((items, more))
 }
 
-/// Whether a text is a pattern but for single spaces between its items.
+/// Whether a text is a pattern but for single spaces between its items, and `0x` before them.
 pub fn is_spaced_pattern(text: &str) -> bool {
     let items = text.strip_suffix('*').unwrap_or(text);
     let items = items.strip_suffix(' ').unwrap_or(items);
-    items.split(' ').all(|part| {
-        !part.is_empty() && part.as_bytes().chunks(2).all(is_pattern_item)
-    })
+    items.split(' ').all(is_spaced_part)
+}
+
+/// Whether a text is items of a pattern, with or without `0x` before them.
+fn is_spaced_part(part: &str) -> bool {
+    let items = digits_of(part);
+    !items.is_empty() && items.as_bytes().chunks(2).all(is_pattern_item)
 }
 
 /// How many items a pattern's text has, where it is one.

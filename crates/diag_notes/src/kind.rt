@@ -89,6 +89,8 @@ fn by_text(line: &str) -> &'static str {
         "it is what candump shows on the screen: record with candump -L, which has the form (1.000000) can0 7E0#021003"
     } else if is_journal(line) {
         "it is a journal: uds_play replay CONFIG JOURNAL takes one"
+    } else if is_compared(line) {
+        "it is what compare writes: the recording itself is wanted"
     } else if is_printed(line) {
         "it is what python-can prints, on the screen or into a .txt, and can't read again: record with can_logger -f bus.log"
     } else if is_asc(line) {
@@ -187,6 +189,13 @@ fn is_journal(line: &str) -> bool {
     line.starts_with("diag-journal")
         || (place.is_some_and(|place| is_digits(place, 1, 1))
             && kind.is_some_and(|kind| kind == "P" || kind == "F" || kind == "T"))
+}
+
+/// Whether a line begins as one of an exchange: with a line's number and its stamp.
+fn is_compared(line: &str) -> bool {
+    let mut words = line.split_ascii_whitespace();
+    let (number, stamp) = (words.next(), words.next());
+    number.is_some_and(|number| is_digits(number, 1, 20)) && stamp.is_some_and(has_form)
 }
 
 /// Whether a line is a message as python-can's Printer writes it.

@@ -1,5 +1,6 @@
 //! Whose frames are in a recording, as far as it is looked at.
 
+use crate::line::ShownLine;
 use crate::often::Often;
 use memchr::{memchr, memchr_iter};
 use std::alloc::{AllocError, Global};
@@ -475,6 +476,7 @@ impl<'a> Recording<'a> {
         let Choice::Only(name) = self.choice else {
             return Ok(String::new(self.alloc));
         };
+        let name = ShownLine(name.as_bytes());
         let told = format!(in self.alloc; "no line of the interface {name} was seen")?;
         self.listed(told, part)
     }
@@ -498,7 +500,7 @@ impl<'a> Recording<'a> {
     /// Adds the flag that takes the first interface with frames.
     fn name_flag(&self, line: &mut String) -> Result<(), AllocError> {
         if let Some(first) = self.interfaces.iter().find(|it| it.frames > 0) {
-            let name = first.name;
+            let name = ShownLine(first.name.as_bytes());
             write!(line, "; --interface {name} takes those of one")?;
         }
         Ok(())
@@ -509,7 +511,7 @@ impl<'a> Recording<'a> {
         line.push_str(part)?;
         let with_frames = self.interfaces.iter().filter(|it| it.frames > 0);
         for (index, interface) in with_frames.enumerate() {
-            let name = interface.name;
+            let name = ShownLine(interface.name.as_bytes());
             let frames = interface.frames;
             let mark = if index == 0 { ":" } else { "," };
             write!(line, "{mark} {name} {frames}")?;

@@ -148,7 +148,7 @@ impl Notes<'_> {
         }
         // Where there is no memory, no note tells of it.
         let _ = match outcome {
-            Outcome::Done { .. } => self.unseen(rt, false, known.first),
+            Outcome::Done { status } => self.unseen(rt, *status != 0, known.first),
             Outcome::Fault {
                 told: Some(told),
                 status,
@@ -271,7 +271,12 @@ impl Notes<'_> {
         number: usize,
     ) -> Result<(), AllocError> {
         let path = self.path(number);
-        let line = match reason(rt, path) {
+        let reason = if number > 0 && self.is_standard() {
+            input_reason(rt)
+        } else {
+            reason(rt, path)
+        };
+        let line = match reason {
             Some(reason) => format!(in rt.alloc(); "{path}: {reason}")?,
             None => String::from_str(rt.alloc(), path)?,
         };
@@ -352,8 +357,26 @@ impl Notes<'_> {
                 self.shown(rt, 1, number, line.bytes.as_slice())?;
                 note(rt, expected(number, &line));
             }
-            None => self.empty(rt, self.path(1), start.as_slice())?,
+            None => self.no_line(rt, number, start.as_slice())?,
         }
+        Ok(())
+    }
+
+    /// Tells that a journal is empty, or its line of this number, where it can be looked at again.
+    fn no_line<R: Eprint + Files + AllocGlobal>(
+        &self,
+        rt: &R,
+        number: u64,
+        start: &[u8],
+    ) -> Result<(), AllocError> {
+        let path = self.path(1);
+        if start.is_empty() || !is_regular(rt, path) {
+            return self.empty(rt, path, start);
+        }
+        let line = format!(in rt.alloc();
+            "line {number} of {path} is empty: each line of a journal is an entry"
+        )?;
+        note(rt, line.as_str());
         Ok(())
     }
 
@@ -591,6 +614,17 @@ fn functional_number(setup: &RawSetup, tester: &RawTester) -> u32 {
         None if tester.extended => 0x18DB_33F1,
         None => setup.functional,
     }
+}
+
+/// The path by which the system knows standard input.
+const INPUT: &str = "/dev/stdin";
+
+/// Why standard input can't be read, as far as its file tells.
+fn input_reason<R: Files + AllocGlobal>(rt: &R) -> Option<String> {
+    if fs::metadata(rt, INPUT).is_err() {
+        return String::from_str(rt.alloc(), "it is closed").ok();
+    }
+    reason(rt, INPUT)
 }
 
 /// Why a file can't be read.

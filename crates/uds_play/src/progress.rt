@@ -21,6 +21,8 @@ pub struct Progress {
     lines: AtomicU64,
     /// 1 once nothing more is to be shown.
     over: AtomicU64,
+    /// 1 while a line may stand on the terminal.
+    line: AtomicU64,
 }
 
 impl Progress {
@@ -30,6 +32,7 @@ impl Progress {
             bytes: AtomicU64::new(0),
             lines: AtomicU64::new(0),
             over: AtomicU64::new(0),
+            line: AtomicU64::new(0),
         }
     }
 
@@ -43,6 +46,16 @@ impl Progress {
     /// Nothing more is to be shown.
     pub fn end(&self) {
         self.over.store(1, Ordering::SeqCst);
+    }
+
+    /// The file was read to its end. Returns once no line stands, so that what is written next stands by itself.
+    pub fn leave(&self) {
+        self.end();
+        for _ in 0..u64::MAX {
+            if self.line.load(Ordering::SeqCst) == 0 {
+                return;
+            }
+        }
     }
 
     fn is_over(&self) -> bool {
@@ -64,7 +77,7 @@ impl Progress {
             let Ok(elapsed) = start.elapsed(rt) else {
                 break;
             };
-            if elapsed >= due && !self.is_over() {
+            if elapsed >= due {
                 self.show_line(rt, size, elapsed);
                 due = elapsed.saturating_add(Duration::from_millis(NEXT));
             }
@@ -72,9 +85,15 @@ impl Progress {
         if due > first {
             let _ = rt.eprint("\r\u{1b}[K");
         }
+        self.line.store(0, Ordering::SeqCst);
     }
 
+    /// Shows the line, unless nothing more is to be shown. (It says first that a line may stand: who ends it waits then.)
     fn show_line(&self, rt: &impl Eprint, size: u64, elapsed: Duration) {
+        self.line.store(1, Ordering::SeqCst);
+        if self.is_over() {
+            return;
+        }
         let bytes = self.bytes.load(Ordering::SeqCst);
         let lines = self.lines.load(Ordering::SeqCst);
         let millis = u64::try_from(elapsed.as_millis())
