@@ -29,6 +29,8 @@ IGNORED = "4 0000000100.020000 A F 22F190 7F2231 ~ 3 0\n"
 UNASKED = "7 0000000100.040000 B U - 7E00 - - 0\n"
 HIDDEN = "9 0000000100.050000 A P 2301 63AA12 63??11 1 0\n"
 LONG = f"12 0000000100.060000 A P 2E{'AB' * 300} 6EABAB 7F2E31 1 0\n"
+QUIET = "11 0000000100.055000 A P 3E80 - = - 0\n"
+PENDING = "11 0000000100.055000 A P 3E80 - = - 1\n"
 SILENT = "13 0000000100.070000 B F 3E80 7E00 - 1 0\n"
 told = Tally("junit", most=1500)
 
@@ -80,6 +82,12 @@ TEXTS = [
     ("those of one tester are missing", AGREES + "A 1 exchanges, 0 differ\nB 2 exchanges, 0 differ\n", 3, {"A": [1, 0, 0, 0], "B": [0, 0, 0, 0], "compare": [1, 0, 1, 0]}),
     ("fewer are counted than differ", HIDDEN + "A 0 exchanges, 1 differ\n", 3, {"A": [1, 1, 0, 0], "compare": [1, 0, 1, 0]}),
     ("a line too many", AGREES + HIDDEN + "A 1 exchanges, 1 differ\n", 3, {"A": [2, 1, 0, 0], "compare": [1, 0, 1, 0]}),
+    ("nothing compared, without that line", "A 0 exchanges, 0 differ\nB 0 exchanges, 0 differ\n", 3, {"A": [0, 0, 0, 0], "B": [0, 0, 0, 0], "compare": [1, 0, 1, 0]}),
+    ("without it behind what the unit didn't answer", QUIET + "A 1 exchanges, 0 differ\nB 0 exchanges, 0 differ\n", 3,
+     {"A": [1, 0, 0, 0], "B": [0, 0, 0, 0], "compare": [1, 0, 1, 0]}),
+    ("without it behind what is ignored", IGNORED + QUIET + "A 2 exchanges, 0 differ\n", 3, {"A": [2, 0, 0, 1], "compare": [1, 0, 1, 0]}),
+    ("response pending alone", PENDING + "A 1 exchanges, 0 differ\n", 0, {"A": [1, 0, 0, 0]}),
+    ("the differences alone, of which there are none", "A 1 exchanges, 0 differ\n", 0, {"A": [0, 0, 0, 0]}),
     ("another text", AGREES + 'uds_play: <"&> \x01\u20ac\nA 1 exchanges, 0 differ\n', 3, {"A": [1, 0, 0, 0], "compare": [1, 0, 1, 0]}),
 ]
 
@@ -112,10 +120,10 @@ def words() -> None:
     cases = {it.get("name"): it for it in root.iter("testcase")}
     texts = {name: it.find("failure").text for name, it in cases.items() if it.find("failure") is not None}
     for name, text in {
-        "1003 DiagnosticSessionControl extendedDiagnosticSession": "line 3: the unit sent B nothing, expected 7F1021",
-        "unasked 7E00": "line 7: the unit sent B 7E00, expected nothing",
-        "2301 ReadMemoryByAddress": "line 9: the unit sent A 63AA12, expected 63??11",
-        "3E80 TesterPresent zeroSubFunction, functional": "line 13: the unit sent B 7E00, expected nothing",
+        "1003 DiagnosticSessionControl extendedDiagnosticSession": "line 3: the unit sent to B: nothing, expected 7F1021",
+        "unasked 7E00": "line 7: the unit sent to B: 7E00, expected nothing",
+        "2301 ReadMemoryByAddress": "line 9: the unit sent to A: 63AA12, expected 63??11",
+        "3E80 TesterPresent zeroSubFunction, functional": "line 13: the unit sent to B: 7E00, expected nothing",
     }.items():
         told(texts.get(name) == text, f"the words of {name}", texts)
     seconds = next(it.get("time") for it in root.iter("testcase") if it.get("classname") == "A")

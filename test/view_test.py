@@ -19,9 +19,11 @@ from harness import PROGRAM, TOP, Tally, cases, run_without
 import browser
 import bus
 import examples
+import uds_compared
 import uds_names
 import uds_run
 import view
+import view_exchanges
 
 VIEW = f"{TOP}/tools/view.py"
 TEXTS = f"{TOP}/test/view_texts.txt"
@@ -407,6 +409,18 @@ def beside(room):
         told(ran.returncode == 1 and ran.stdout == b"" and want in ran.stderr.decode(), f"a fault: {name}", ran)
 
 
+def left_out(_):
+    """A page of the differences alone says how many exchanges aren't told, and which these are."""
+    for counts, want in [
+        ("A 3 exchanges, 0 differ\nB 2 exchanges, 0 differ\n", ["5 that agree or are ignored aren't told"]),
+        ("A 3 exchanges, 0 differ\nnothing compared\n", ["3 that agree or are ignored aren't told", "nothing compared"]),
+        ("A 0 exchanges, 0 differ\nnothing compared\n", ["nothing compared"]),
+        (f"{behind_cut().splitlines()[0]}\nA 1 exchanges, 1 differ\n", []),
+    ]:
+        found = view_exchanges.notes_of(uds_compared.read_report(counts.splitlines(keepends=True)))
+        told(found == want, f"what isn't told: {', '.join(want) or 'nothing'}", found)
+
+
 # ---- faults
 
 
@@ -779,7 +793,7 @@ def main():
     if sys.argv[1:] == ["--pictures"]:
         return make_pictures()
     told.needs_program()
-    told.in_rooms(names, texts, lines_a_step, sessions, silence, late, beside, first_bytes, parted, line_ends, faults, pages)
+    told.in_rooms(names, texts, lines_a_step, sessions, silence, late, beside, first_bytes, left_out, parted, line_ends, faults, pages)
     return told.ended()
 
 

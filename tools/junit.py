@@ -5,9 +5,9 @@ the difference as the failure's text. It reads standard input and writes standar
     ./uds_play compare SETUP CAPTURE | tools/junit.py > report.xml
 
 The status is the one that the text tells: 0 where nothing differs, 8 where something does, 9 where nothing was compared,
-3 where the testers' lines are missing, for then the run ended by a fault, or where they don't fit the exchanges. With 9 and 3
-the report has an error, so it isn't green either. The status is 7 where the report couldn't be written, and 1 where a word
-stands behind the tool's name.
+3 where the testers' lines are missing, for then the run ended by a fault, where they don't fit the exchanges, or where the
+line `nothing compared` is missing. With 9 and 3 the report has an error, so it isn't green either. The status is 7 where the
+report couldn't be written, and 1 where a word stands behind the tool's name.
 
 An exchange that is ignored is a test case that was skipped. A test case is called as its request, the second of the same
 ` (2)` behind it, so a build server follows it from one recording of a sequence to the next: of the whole text, for with
@@ -21,7 +21,7 @@ from xml.sax.saxutils import escape, quoteattr
 sys.dont_write_bytecode = True
 sys.path.append(os.path.join(os.path.dirname(os.path.abspath(__file__)), "parts"))
 import uds_words
-from uds_compared import FAULT, NOT_COMPARED, NOTHING, Compared, Report, read_report
+from uds_compared import NOT_COMPARED, NOTHING, Compared, Report, read_report
 from uds_streams import CannotWrite, input_lines, ready, write_out
 
 CANNOT_WRITE = 7
@@ -78,7 +78,7 @@ def message(it: Compared) -> str:
 def difference(it: Compared) -> str:
     """What a failure says in full."""
     wanted = "nothing" if it.expected == "-" else it.expected
-    return f"line {it.line}: the unit sent {it.name} {digits(it.sent)}, expected {wanted}"
+    return f"line {it.line}: the unit sent to {it.name}: {digits(it.sent)}, expected {wanted}"
 
 
 def outcome(it: Compared) -> Lines:
@@ -112,8 +112,10 @@ def errors_of(report: Report) -> list[str]:
         return [f"line {number} of standard input is none of compare's: {text[:60]}"]
     if not report.counts:
         return ["the run ended by a fault: the testers' lines are missing"]
-    if report.status() == FAULT:
+    if not report.is_whole():
         return ["the testers' lines don't fit the exchanges: a part of the text is missing"]
+    if report.lacks_nothing():
+        return [f"the last line is missing: {NOTHING}"]
     return [NOTHING] if report.status() == NOT_COMPARED else []
 
 

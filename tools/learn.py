@@ -53,6 +53,8 @@ MOST_ROUNDS, MOST_IDLE = 16, 6
 # the most differences that are told one by one
 MOST_TOLD = 1000
 MOST_OF_11_BITS, MOST_OF_29_BITS = 0x7FF, 0x1FFFFFFF
+# the status where the user ends it
+INTERRUPTED = 130
 
 
 class Progress:
@@ -194,11 +196,12 @@ def learned(unit: Unit, judge: Judge, source: str, progress: Progress) -> tuple[
         verdict = judge(text)
         progress.at(0.4 + 0.6 * number / MOST_ROUNDS, f"{count_of(verdict)} exchanges differ")
         idle = 0 if best is None or count_of(verdict) < count_of(best[1]) else idle + 1
-        best = (text, verdict, plan.left_out) if idle == 0 else best
+        best = (text, verdict, plan.left_out, unit.rows) if idle == 0 else best
         if verdict.status != DIFFERS or idle > MOST_IDLE or not plan.widen(verdict.exchanges):
             break
         unit.rows = plan.rows(unit, verdict.exchanges)
-    return best
+    *found, unit.rows = best
+    return tuple(found)
 
 
 def cut_off(exchanges: list[Exchange], unit: Unit) -> list[Exchange]:
@@ -253,6 +256,21 @@ def tell_sizes(unit: Unit) -> None:
             say(f"the values of {number:04X} have {', '.join(most)} and {last} bytes: any bytes will do, but as many as were recorded each time")
 
 
+def tell_not_entered(unit: Unit) -> None:
+    """Tells of requests that began a session of the unit, and begin none by their rows."""
+    for it in unit.rows:
+        if it.request.startswith("10") and not it.enter and any(text.startswith("50") and text[2:4] != "01" for text in it.reply or ()):
+            say(f"{it.request} is answered as recorded, but begins no session: what wasn't recorded there is answered as in the default one")
+
+
+def why_nothing(unit: Unit) -> str:
+    """Why nothing was compared, in words."""
+    count = sum(it.count for it in unit.asked.values())
+    if not count:
+        return "no exchange of these testers is in the recording"
+    return "the unit didn't answer the only request" if count == 1 else f"the unit answered none of the {count} requests"
+
+
 def tell(verdict: Verdict, unit: Unit, left_out: int) -> None:
     """Tells what differs, by so many rows that found no room, and what else a reader of the setup should know."""
     differing = verdict.differing()
@@ -268,8 +286,9 @@ def tell(verdict: Verdict, unit: Unit, left_out: int) -> None:
     for line in verdict.notes.splitlines():
         say(line)
     if verdict.status == NOTHING:
-        say("nothing was compared: no exchange of these testers is in the recording")
+        say(f"nothing was compared: {why_nothing(unit)}")
     tell_sizes(unit)
+    tell_not_entered(unit)
     tell_cut_off(unit)
     tell_left_pending(verdict, unit)
     tell_broken(unit.sending.broken)
@@ -290,7 +309,7 @@ def refused(fault: Refused) -> int:
     for line in fault.told.splitlines():
         say(line)
     if fault.status == BAD_SETUP:
-        say("setup.toml is the setup that is printed: the program doesn't take it")
+        say("the program doesn't take the setup learned; it is printed all the same")
         return fault.status if is_printed(fault.setup) else 7
     return fault.status
 
@@ -420,4 +439,7 @@ def main(given: Optional[list[str]] = None) -> int:
 
 
 if __name__ == "__main__":
-    sys.exit(main())
+    try:
+        sys.exit(main())
+    except KeyboardInterrupt:
+        sys.exit(INTERRUPTED)

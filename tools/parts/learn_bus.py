@@ -64,11 +64,10 @@ class Pair:
 
 
 def pair_of(text: str) -> Pair:
-    """The pair that the command line gives as REQUEST:RESPONSE=NAME, or as REQUEST:RESPONSE:fd=NAME. ValueError where it is
-    none."""
+    """The pair that the command line gives as REQUEST:RESPONSE[:fd][=NAME]. ValueError where it is none."""
     found = PAIR.fullmatch(text)
     if not found or len(found["request"]) != len(found["response"]):
-        raise ValueError(f"{text}: it is REQUEST:RESPONSE=NAME, with identifiers of 3 hex digits, or of 8, and a name of 1 to 16 ASCII letters, digits or _")
+        raise ValueError(f"{text}: it is REQUEST:RESPONSE[:fd][=NAME], with identifiers of 3 hex digits, or of 8, and a name of 1 to 16 ASCII letters, digits or _")
     request, response = found["request"], found["response"]
     return Pair(int(request, 16), int(response, 16), len(request) == 8, found["name"] or "", bool(found["fd"]))
 

@@ -106,8 +106,9 @@ class Program:
             with subprocess.Popen(words, stdout=subprocess.PIPE, stderr=told, encoding="utf-8") as child:
                 found = read_exchanges(child.stdout, self.names)
             told.seek(0)
-            # (no file of this tool's own is named, and the setup is one)
-            notes = told.read().strip().replace(f"{self.room}/", "").replace(": the setup comes first, then the recording", "")
+            # (no file of this tool's own is named)
+            notes = told.read().strip().replace(path, "the setup learned").replace(f"{self.room}/capture.log", "the recording")
+            notes = notes.replace(": the setup comes first, then the recording", "")
         if child.returncode not in (AGREES, DIFFERS, NOTHING):
             raise Refused(child.returncode, notes, setup)
         return Verdict(found, child.returncode, notes)

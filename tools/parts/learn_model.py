@@ -4,7 +4,7 @@ from collections import Counter, defaultdict
 from typing import Callable, NamedTuple, Optional
 
 from learn_judge import Exchange
-from learn_setup import Code, Did, Key, Level, Routine, Seen, Unit, between
+from learn_setup import Code, Did, Key, Level, Routine, Row, Seen, Unit, between
 from uds_names import IN_SESSION
 
 # limits of a setup
@@ -79,9 +79,13 @@ class Walk:
         self.holder, self.held = None, Held()
         self.turns += 1
 
-    def take(self, it: Exchange) -> None:
+    def take(self, it: Exchange, row: Optional[Row] = None) -> None:
+        """An exchange, and, where a row of a setup decides it, that row: nothing else changes the session then."""
         sid, sub = it.request[0], sub_of(it)
-        if session_of(it):
+        if row is not None:
+            if row.enter and self.holder in (None, it.place):
+                self.enter(it.place, row.enter)
+        elif session_of(it):
             self.enter(it.place, sub)
         elif sid == 0x11 and is_done(it):
             self.end()

@@ -9,9 +9,9 @@ from typing import Callable, Hashable, Iterable, Optional
 
 import uds_rules
 from learn_judge import Exchange
-from learn_model import Held, Walk, is_done, is_left_pending, one_round, session_of, sub_of, values_in
+from learn_model import Held, Walk, is_done, is_left_pending, one_round, refusal, session_of, sub_of, values_in
 from learn_setup import Row, Seen, Unit, setup_text
-from uds_names import SERVICES
+from uds_names import IN_SESSION, SERVICES
 
 # limits of rows
 MOST_ITEMS, MOST_BYTES, MOST_TEMPLATES, MOST_ALL_TEMPLATES, MOST_ROWS = 64, 4095, 4096, 65536, 1024
@@ -56,18 +56,22 @@ class Case:
         return any(it.differs() or is_left_pending(it) for it in self.all)
 
 
-def cases_of(unit: Unit, exchanges: list[Exchange]) -> list[Case]:
-    """The exchanges that have a request, those that are alike together."""
-    walk, found = Walk(unit.s3), {}
+def cases_of(unit: Unit, exchanges: list[Exchange], rows: Optional[list[Row]] = None) -> list[Case]:
+    """The exchanges that have a request, those that are alike together, in the sessions to which these rows lead; without rows
+    those alone that change the session, in the unit's own."""
+    walk, found, deciding = Walk(unit.s3), {}, Deciding(rows or ())
     for it in exchanges:
         if it.request:
             held = walk.before(it)
+            if rows is None and it.request[0] not in OF_THE_SESSION:
+                walk.take(it)
+                continue
             held = held if held.level in unit.levels or not held.level else Held(held.session)
             key = it.request, it.sent, is_left_pending(it), held
             if key not in found:
                 found[key] = Case(held, answer_of(unit, it), [])
             found[key].all.append(it)
-            walk.take(it)
+            walk.take(it, deciding(it.request, held) if it.request[0] in OF_THE_SESSION else None)
     return list(found.values())
 
 
@@ -96,9 +100,13 @@ def answers_of(cases: list[Case]) -> list[str]:
     return [answer for _, _, answer in sorted((it.line, it.place, case.answer) for case in cases for it in case.all)]
 
 
+def known(request: bytes) -> bytes:
+    """A request, as far as a pattern can tell it from others: a longer one by its first bytes."""
+    return request[:MOST_ITEMS] + bytes(len(request) > MOST_ITEMS)
+
+
 def request_of(case: Case) -> bytes:
-    """The request, as far as a pattern can tell it from others."""
-    return case.request[: MOST_ITEMS + 1]
+    return known(case.request)
 
 
 # ---- a row for some exchanges
@@ -147,13 +155,11 @@ def after_of(unit: Unit, cases: list[Case]) -> int:
 
 
 def entered(cases: list[Case]) -> int:
-    """The session that these requests enter, 0 for none: all of them are one request for it, and all were done."""
-    first = cases[0].all[0]
-    if not all(is_done(it.all[0]) for it in cases):
+    """The session that these requests enter, 0 for none: all of them are one request for it, which was done at least once."""
+    done = [it.all[0] for it in cases if is_done(it.all[0])]
+    if not done or len({it.request for it in cases}) > 1:
         return 0
-    if first.request[0] == 0x11:
-        return 1
-    return session_of(first) if len({it.request for it in cases}) == 1 else 0
+    return 1 if done[0].request[0] == 0x11 else session_of(done[0])
 
 
 def row_of(unit: Unit, cases: list[Case], templates: list[str], held: Held) -> Row:
@@ -239,13 +245,37 @@ def narrowed(held: Held, name: str, case: Case) -> Held:
 
 
 def fewest(unit: Unit, cases: list[Case]) -> list[Row]:
-    best = None
+    """The rows for these exchanges, in their order, by which there are the fewest with those that are wanted besides."""
+    best, least, tried = [], 0, []
     for order in ORDERS:
         rows = explained(unit, cases, ANY, order)
-        best = rows if best is None or len(rows) < len(best) else best
-        if len(best) <= 1:
+        for key in () if rows in tried else (rank, often):
+            own, left = in_use(sorted(rows, key=key), cases)
+            if not least or len(own) + left < least:
+                best, least = own, len(own) + left
+            if not left:
+                break
+        if least <= 1:
             break
+        tried.append(rows)
     return best
+
+
+def in_use(rows: list[Row], cases: list[Case]) -> tuple[list[Row], int]:
+    """The rows that decide one of these exchanges; and how many requests they answer otherwise than the unit did: each of these
+    wants a row of its own."""
+    deciding = Deciding(rows)
+    decided = [(deciding(it.request, it.held), it) for it in cases]
+    own = {id(row) for row, _ in decided}
+    return [it for it in rows if id(it) in own], len({request_of(it) for row, it in decided if not says(row, it)})
+
+
+def says(row: Optional[Row], case: Case) -> bool:
+    """Whether a row has the answer; one with several is of one request, and has them all."""
+    if row is None or len(row.reply) > 1:
+        return row is not None
+    items = uds_rules.items_of(row.reply[0])
+    return case.answer == "".join(f"{case.request[int(it[1], 16)]:02X}" if it[0] == "$" else it for it in items)
 
 
 # ---- the rows of a unit
@@ -257,13 +287,29 @@ def is_refused_key(it: Exchange) -> bool:
     return is_key and it.expected.startswith("67") and (it.sent or b"").startswith(b"\x7f")
 
 
+def hasty(exchanges: Iterable[Exchange]) -> set[bytes]:
+    """The requests that change the session and were refused, and behind which the session counted, for this tester or for
+    another one, before it changed."""
+    found, refused = set(), defaultdict(set)
+    for it in exchanges:
+        sid = it.request[0] if it.request else 0
+        if sid in IN_SESSION:
+            found |= refused[it.place]
+        elif sid in (0x10, 0x11):
+            found.update(*(own for place, own in refused.items() if place != it.place))
+            refused[it.place] = refused[it.place] | {known(it.request)} if refusal(it) else set()
+    return found
+
+
 class Plan:
     """Which requests have rows, at which stage, and the rows that come of it. Those that were left pending have rows from the
     beginning: the judge looks away from response pending."""
 
-    def __init__(self, exchanges: Iterable[Exchange]) -> None:
-        left = {it.request[: MOST_ITEMS + 1] for it in exchanges if is_left_pending(it)}
+    def __init__(self, exchanges: list[Exchange]) -> None:
+        left = {known(it.request) for it in exchanges if is_left_pending(it)}
         self.stages: dict[bytes, Stage] = {it: Stage.BY_SESSION for it in sorted(left)}
+        # requests whose row, where it has refusals too, can't change the session
+        self.hasty = hasty(exchanges)
         # the sessions and levels in which the exchanges of a request differed without rows
         self.differed: dict[bytes, set[Held]] = defaultdict(set)
         # services that the model lacks, whose requests share rows
@@ -273,13 +319,13 @@ class Plan:
 
     def widen(self, exchanges: list[Exchange]) -> bool:
         """Takes in what differs; returns whether anything is explained in another way than before."""
-        differing = {it.request[: MOST_ITEMS + 1] for it in exchanges if it.request and it.differs()}
+        differing = {known(it.request) for it in exchanges if it.request and it.differs()}
         lacking = {it[0] for it in differing} - self.services - set(SERVICES)
         own = [it for it in differing if it[0] not in lacking and self.stages.get(it) != Stage.IN_ORDER_ALONE]
         # what the others are answered depends on the session: as long as that isn't explained, they are looked at anew
         first = [it for it in own if it not in self.stages or it[0] in OF_THE_SESSION]
         # a wrong key that any key's level takes unlocks: what differs behind that may differ for this alone
-        refused = {it.request[: MOST_ITEMS + 1] for it in exchanges if it.differs() and is_refused_key(it)} - set(self.stages)
+        refused = {known(it.request) for it in exchanges if it.differs() and is_refused_key(it)} - set(self.stages)
         causes = refused or self.causes(own)
         if causes:
             first, lacking = sorted(causes), set()
@@ -300,30 +346,50 @@ class Plan:
 
     def rows(self, unit: Unit, exchanges: list[Exchange]) -> list[Row]:
         """The rows, the most special ones first."""
-        cases = cases_of(unit, exchanges)
-        by_request = grouped(cases, request_of)
-        found = []
-        for request, stage in self.stages.items():
-            own = by_request.get(request, [])
-            self.differed[request] |= {it.held for it in own if it.differs()}
-            found += rows_at(unit, own, stage, self.differed[request])
+        found = sorted(self.own_rows(unit, cases_of(unit, exchanges), True), key=rank)
+        cases = cases_of(unit, exchanges, found)
+        found += self.own_rows(unit, cases, False)
         shared = (it for it in cases if it.request[0] in self.services and request_of(it) not in self.stages)
         by_service = grouped(shared, lambda it: it.request[0])
         for own in by_service.values():
             found += fewest(unit, own)
-        found.sort(key=rank)
+        # (those of several requests stand as they were made)
+        found.sort(key=lambda it: (True,) if is_wide_row(it) else rank(it))
         room = MOST_TEXT - len(setup_text(replace(unit, rows=[]), ""))
         found += late_rows(unit, cases, found)
         kept = limited(found, room)
         self.left_out = len(found) - len(kept)
         return kept
 
+    def own_rows(self, unit: Unit, cases: list[Case], of_the_session: bool) -> list[Row]:
+        """The rows of the requests that have stages, of those that change the session or of the others."""
+        found = []
+        own = {request: stage for request, stage in self.stages.items() if (request[0] in OF_THE_SESSION) == of_the_session}
+        by_request = grouped(cases, request_of) if own else {}
+        for request, stage in own.items():
+            its = by_request.get(request, [])
+            self.differed[request] |= {it.held for it in its if it.differs()}
+            rows = rows_at(unit, its, stage, self.differed[request])
+            found += [replace(it, enter=0) if it.refuses() else it for it in rows] if request in self.hasty else rows
+        return found
+
+
+def is_wide_row(row: Row) -> bool:
+    """Whether a row is for several requests, as far as a pattern can tell them."""
+    items = row.request.removesuffix("*")
+    return ".." in items or items != row.request and len(items) < 2 * MOST_ITEMS
+
 
 def rank(row: Row) -> tuple:
-    """A row that wants a level, a session, or more bytes to be what they are, comes before one that doesn't; of two alike the one
-    that was seen more often."""
-    is_wide_row = ".." in row.request or row.request.endswith("*")
-    return is_wide_row, row.level == 0, row.session == 0, -len(row.request.replace(".", "")), -row.seen.count, row.request
+    """A row of one request comes before one of several; then one that wants a level, a session, or more bytes to be what they
+    are, before one that doesn't; of two alike the one that was seen more often."""
+    fixed, is_open = len(row.request.strip("*").replace(".", "")), row.request.endswith("*")
+    return is_wide_row(row), row.level == 0, row.session == 0, -fixed, is_open, -row.seen.count, row.request
+
+
+def often(row: Row) -> tuple:
+    """Another order: of the rows of several requests the one that was seen more often comes first."""
+    return is_wide_row(row), -row.seen.count, rank(row)
 
 
 def rows_at(unit: Unit, cases: list[Case], stage: Stage, differed: set[Held]) -> list[Row]:
@@ -348,29 +414,35 @@ def by_session(unit: Unit, cases: list[Case], differed: set[Held]) -> list[Row]:
 
 
 class Deciding:
-    """Which requests some rows decide, in which session and behind which level."""
+    """Which of some rows, which stand by rank, decides a request, in a session and behind a level."""
 
-    def __init__(self, rows: list[Row]) -> None:
-        self.exact, self.wide = defaultdict(list), defaultdict(list)
+    def __init__(self, rows: Iterable[Row]) -> None:
+        self.exact, self.wide = defaultdict(list), []
+        # the wide ones by the first two bytes of requests
+        self.near: dict[bytes, list] = {}
         for it in rows:
             items, is_open = uds_rules.pattern_of(it.request)
-            if is_open or None in items:
-                self.wide[items[0]].append((items, is_open, it))
+            if is_wide_row(it):
+                self.wide.append((items, is_open, it))
             else:
-                self.exact[bytes(items)].append(it)
+                self.exact[bytes(items) + bytes(is_open)].append(it)
 
-    def __call__(self, case: Case) -> bool:
-        own = (row for items, is_open, row in self.wide[case.request[0]] if uds_rules.fits(items, is_open, case.request))
-        return any(it.session in (0, case.held.session) and it.level in (0, case.held.level) for it in chain(self.exact[case.request], own))
+    def __call__(self, request: bytes, held: Held) -> Optional[Row]:
+        near = self.near.get(request[:2])
+        if near is None:
+            near = self.near[request[:2]] = [it for it in self.wide if all(item in (None, byte) for item, byte in zip(it[0], request[:2]))]
+        wide = (row for items, is_open, row in near if uds_rules.fits(items, is_open, request))
+        own = chain(self.exact.get(known(request), ()), wide)
+        return next((it for it in own if it.session in (0, held.session) and it.level in (0, held.level)), None)
 
 
 def late_rows(unit: Unit, cases: list[Case], rows: list[Row]) -> list[Row]:
     """Rows that leave the answer to the server, and delay it: for requests with response pending that no other row decides. They
     are for the sessions and levels in which the answer was late, where it was prompt in others."""
-    is_decided = Deciding(rows)
-    late = grouped((it for it in cases if is_late(it) and not is_decided(it)), late_pattern)
+    deciding = Deciding(rows)
+    late = grouped((it for it in cases if is_late(it) and not deciding(it.request, it.held)), late_pattern)
     others = (it for it in cases if it.all[0].sent and not is_late(it) and late_pattern(it) in late)
-    prompt = grouped((it for it in others if not is_decided(it)), late_pattern)
+    prompt = grouped((it for it in others if not deciding(it.request, it.held)), late_pattern)
     found = []
     for pattern, own in late.items():
         by_held = grouped(own, lambda it: it.held)

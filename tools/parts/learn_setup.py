@@ -101,6 +101,10 @@ class Row:
     after: int = 0
     seen: Seen = field(default_factory=Seen)
 
+    def refuses(self) -> bool:
+        """Whether an answer of it is a negative response."""
+        return any(it.startswith("7F") for it in self.reply or ())
+
 
 @dataclass
 class Unit:
@@ -324,8 +328,9 @@ def answer_tables(unit: Unit) -> Iterator[str]:
         yield f"\n{commented(f'{row_words(it)}: {it.seen.shown()}')}[[answer]]\n"
         yield f'request = "{it.request}"\n'
         yield from reply_lines(it.reply)
-        for key, value in (("session", it.session), ("level", it.level), ("enter", it.enter)):
+        for key, value in (("session", it.session), ("level", it.level)):
             yield f"{key} = 0x{value:02X}\n" if value else ""
+        yield f"enter = 0x{it.enter:02X}{'  # also where it refuses' * it.refuses()}\n" if it.enter else ""
         yield f"after_ms = {it.after}\n" if it.after else ""
 
 

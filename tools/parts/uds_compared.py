@@ -36,6 +36,11 @@ class Compared:
     def differs(self) -> bool:
         return self.expected not in ("=", "~")
 
+    def is_seen(self) -> bool:
+        """Whether it was compared with anything: it differs, or the unit sent something, response pending included, and it
+        isn't ignored."""
+        return self.differs() or (not self.is_ignored() and (self.sent is not None or self.pendings > 0))
+
 
 @dataclass
 class Report:
@@ -48,8 +53,9 @@ class Report:
     stray: Optional[tuple[int, str]] = None
 
     def status(self) -> int:
-        """The status that the text tells; that of a fault where the testers' lines are missing, or don't fit."""
-        if not self.counts or self.stray or not self.is_whole():
+        """The status that the text tells; that of a fault where the testers' lines are missing, or don't fit, or where the
+        last line is missing."""
+        if not self.counts or self.stray or not self.is_whole() or self.lacks_nothing():
             return FAULT
         if any(differ for _, differ in self.counts.values()):
             return DIFFERS
@@ -58,11 +64,24 @@ class Report:
     def is_whole(self) -> bool:
         """Whether the exchanges are those that the testers' lines count: all of them, or with `--differences` those that
         differ."""
-        told = Counter(it.name for it in self.exchanges)
         differing = Counter(it.name for it in self.exchanges if it.differs())
-        all_of_them = Counter({name: many for name, (many, _) in self.counts.items()})
         good = differing == Counter({name: differ for name, (_, differ) in self.counts.items()})
-        return good and (told == all_of_them or told == differing <= all_of_them)
+        return good and (self.tells_all() or self.told() == differing <= self.counted())
+
+    def told(self) -> Counter[str]:
+        """How many exchanges of each tester are told."""
+        return Counter(it.name for it in self.exchanges)
+
+    def counted(self) -> Counter[str]:
+        """How many exchanges each tester's line counts."""
+        return Counter({name: many for name, (many, _) in self.counts.items()})
+
+    def tells_all(self) -> bool:
+        return self.told() == self.counted()
+
+    def lacks_nothing(self) -> bool:
+        """Whether the line `nothing compared` is missing. Where exchanges that don't differ are left out nobody can tell."""
+        return not self.is_nothing and self.tells_all() and not any(it.is_seen() for it in self.exchanges)
 
     def names(self) -> list[str]:
         """The testers in the order of their lines; those without one behind them, as they come."""

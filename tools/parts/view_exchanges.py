@@ -135,7 +135,7 @@ def notes_of(report: Report) -> list[str]:
     if not report.counts:
         return ["the run ended by a fault"]
     left_out = sum(many for many, _ in report.counts.values()) - len(report.exchanges)
-    return ([f"{left_out} that agree aren't told"] if left_out > 0 else []) + ([NOTHING] if report.is_nothing else [])
+    return ([f"{left_out} that agree or are ignored aren't told"] if left_out > 0 else []) + ([NOTHING] if report.is_nothing else [])
 
 
 def exchanges_data(setup: Setup, report: Report, name: str, title: str) -> dict:
