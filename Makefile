@@ -3,8 +3,8 @@
 # What is installed is in out/ where it was built of these sources, else in release/ (tools/release.sh --files).
 PREFIX ?= /usr/local
 PYTHON ?= python3
-# where Python looks for packages under PREFIX (Debian's does so in dist-packages), else where it would
-PYTHONDIR ?= $(shell $(PYTHON) -c 'import sys, sysconfig; at = [it for it in sys.path if it.startswith("$(PREFIX)/lib/") and it.endswith("-packages")]; print((at + [sysconfig.get_path("purelib", "posix_prefix", {"base": "$(PREFIX)"})])[0])')
+# where Python looks for packages under PREFIX (Debian's does so in dist-packages), else where it would; nowhere without Python
+PYTHONDIR ?= $(shell $(PYTHON) -c 'import sys, sysconfig; at = [it for it in sys.path if it.startswith("$(PREFIX)/lib/") and it.endswith("-packages")]; print((at + [sysconfig.get_path("purelib", "posix_prefix", {"base": "$(PREFIX)"})])[0])' 2> /dev/null)
 # PREFIX as the file for pkg-config tells it
 PCPREFIX ?= $(PREFIX)
 ROOT = $(DESTDIR)$(PREFIX)
@@ -20,10 +20,11 @@ install:
 	install -D -m 644 "$$2" '$(ROOT)/lib/libuds_unit.so.2'; \
 	ln -sf libuds_unit.so.2 '$(ROOT)/lib/libuds_unit.so'; \
 	install -D -m 644 include/uds_unit.h '$(ROOT)/include/uds_unit.h'; \
-	install -d '$(ROOT)/lib/pkgconfig'; \
-	sed -e 's|@PREFIX@|$(PCPREFIX)|' -e "s|@VERSION@|$$version|" include/uds_unit.pc.in > '$(ROOT)/lib/pkgconfig/uds_unit.pc'; \
+	sed -e 's|@PREFIX@|$(PCPREFIX)|' -e "s|@VERSION@|$$version|" include/uds_unit.pc.in \
+	  | install -D -m 644 /dev/stdin '$(ROOT)/lib/pkgconfig/uds_unit.pc'; \
 	install -D -m 644 man/uds_play.1 '$(ROOT)/share/man/man1/uds_play.1'; \
 	install -D -m 644 completion/uds_play.bash '$(ROOT)/share/bash-completion/completions/uds_play'; \
+	if [ -z '$(PYTHONDIR)' ]; then echo 'without the Python package: $(PYTHON) does not tell where packages are'; exit; fi; \
 	install -d '$(PACKAGE)'; \
 	install -m 644 python/uds_unit/*.py python/uds_unit/py.typed '$(PACKAGE)'; \
 	install -m 644 "$$2" '$(PACKAGE)/libuds_unit.so'; \
@@ -34,6 +35,6 @@ install:
 uninstall:
 	rm -f '$(ROOT)/bin/uds_play' '$(ROOT)/lib/libuds_unit.so.2' '$(ROOT)/lib/libuds_unit.so' '$(ROOT)/include/uds_unit.h'
 	rm -f '$(ROOT)/lib/pkgconfig/uds_unit.pc' '$(ROOT)/share/man/man1/uds_play.1' '$(ROOT)/share/bash-completion/completions/uds_play'
-	rm -rf '$(PACKAGE)' '$(PACKAGE)'-*.dist-info
+	$(if $(PYTHONDIR),rm -rf '$(PACKAGE)' '$(PACKAGE)'-*.dist-info)
 
 .PHONY: all install uninstall

@@ -3,7 +3,8 @@
  * it sends.
  *
  * No call starts a thread, waits or reads a clock: time is what the caller says. Each call returns, and answers a status.
- * The more time a call lets pass the longer it takes: some milliseconds for a year.
+ * The more time a call lets pass the longer it takes: for a year and a tester some milliseconds, with a journal some tens.
+ * uds_unit_open wants up to 2 MiB of stack, for a setup without deep tables 128 KiB; every other call wants 16 KiB.
  *
  * Caller's duty, which nothing checks:
  * - no pointer is null, also where a length or a room is 0, and each points to as many bytes as its length says;
@@ -73,7 +74,8 @@ struct uds_code {
 
 /* Opens a unit of a setup in TOML (len bytes); a unit that was open is freed first. Where the setup is at fault (UDS_SETUP),
  * or there is no memory, the unit isn't open, and text gets the line that the program tells, ended by a 0, as far as it
- * fits into room bytes. Where the line and its 0 have more bytes than that, no 0 ends the text. */
+ * fits into room bytes. Where the line and its 0 have more bytes than that, no 0 ends the text. The setup may have any length;
+ * the program and Python's package take 1,048,576 bytes at most. */
 uint32_t uds_unit_open(struct uds_unit *unit, const uint8_t *config, size_t len, uint8_t *text, size_t room);
 
 /* The same, and the unit keeps the lines of its journal until uds_unit_journal hands them out. */

@@ -84,8 +84,11 @@ def tell_of_package(folder: str) -> None:
     about = project()
     at = Path(folder) / info(about)
     at.mkdir(exist_ok=True)
+    # (others read it, too, whatever the umask)
+    at.chmod(0o755)
     for name, text in {"METADATA": metadata(about), "entry_points.txt": entry_points(about), "INSTALLER": "make\n"}.items():
         (at / name).write_text(text)
+        (at / name).chmod(0o644)
 
 
 if __name__ == "__main__":

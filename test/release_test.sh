@@ -228,6 +228,16 @@ int main(void) { struct uds_unit unit = UDS_UNIT_INIT; return uds_unit_close(&un
   holds "and runs" 0
   ran "${without_kit[@]}" make uninstall PREFIX="$room/usr" PYTHONDIR="$room/usr/python"
   if [ "$status" = 0 ] && [ -z "$(find "$room/usr" ! -type d)" ]; then good "make uninstall leaves nothing"; else bad "make uninstall leaves nothing"; fi
+  mkdir -p "$room/alone/uds_unit"
+  ran "${without_kit[@]}" make install DESTDIR="$room/alone" PYTHON=/none
+  holds "make install without Python leaves the package out" 0 'without the Python package'
+  ran find "$room/alone" -path '*uds_unit/*'
+  shows "and puts it nowhere" /dev/null
+  ran "${without_kit[@]}" make uninstall DESTDIR="$room/alone" PYTHON=/none
+  if [ "$status" = 0 ] && [ -d "$room/alone/uds_unit" ]; then good "nor is it removed"; else bad "nor is it removed"; fi
+  (umask 077 && ran "${without_kit[@]}" make install PREFIX="$room/own" PYTHONDIR="$room/own/python")
+  ran find "$room/own/"* '(' ! -perm -go=r -o -type d ! -perm -go=x ')' ! -type l
+  shows "others read what is installed, whatever the umask" /dev/null
   ran "${without_kit[@]}" tools/release.sh --tarball
   holds "the tarball is made" 0 'linux-x86_64.tar.gz'
   first=$(sha256sum "$copy"/out/*.tar.gz 2> /dev/null | cut -d' ' -f1)

@@ -4,13 +4,17 @@ import contextlib
 import importlib.util
 import io
 import itertools
+import os
 import shutil
+import signal
 import subprocess
 import sys
 import tempfile
 import time
 import unittest
+from math import nextafter
 from pathlib import Path
+from types import SimpleNamespace
 from unittest import mock
 
 SETUP = Path(__file__).resolve().parent.parent.parent / "demo/setup.toml"
@@ -133,10 +137,32 @@ class BusTests(unittest.TestCase):
         self.assertEqual((heard.is_fd, heard.bitrate_switch, heard.error_state_indicator), (True, True, False))
         self.assertEqual((heard.arbitration_id, heard.data.hex()), (0x7E8, "001462f190" + 17 * "30" + "cccc"))
 
+    def test_a_look_just_before_a_frame_is_due(self) -> None:
+        """The frame is still the thread's to send. Here the test makes the thread's turns, and says what its clock does."""
+        from uds_unit.bus import UnitBus
+
+        heard, sent, clock = [], [], SimpleNamespace(now=0.0)
+        bus = mock.Mock(recv=lambda _: heard.pop() if heard else None, send=sent.append)
+        ours = SimpleNamespace(monotonic=lambda: clock.now)
+        with mock.patch("uds_unit.bus.time", ours), mock.patch("threading.Thread"), UnitBus(bus, SETUP) as unit:
+            for clock.now, data in ((0.0, "0322F190"), (0.001, "30000A")):
+                heard.append(self.Message(arbitration_id=0x7E0, data=bytes.fromhex(data), is_extended_id=False))
+                unit._turn()
+            looks = [lambda: unit.session, lambda: unit.values, lambda: unit.set_code(0xC10000, 1), lambda: unit.journal()]
+            for clock.now, look in zip((0.0105, 0.0109994, 0.0109996, nextafter(0.011, 0)), looks):
+                look()
+                unit._turn()
+                self.assertEqual([it.data[0] for it in sent], [0x10, 0x21])
+            clock.now = 0.011
+            unit._turn()
+            self.assertEqual([it.data[0] for it in sent], [0x10, 0x21, 0x22])
+
     def test_frames_that_no_wire_carries(self) -> None:
         """They don't end the unit: a virtual bus hands out what it was given."""
         from uds_unit.bus import UnitBus
 
+        for id, extended in ((0x18DA10F1, False), (0x900, False), (-1, False), (0x20000000, True), (0xFFFFFFFF, True)):
+            self.near.send(self.Message(arbitration_id=id, data=bytes.fromhex("023E00"), is_extended_id=extended))
         self.ask("021003" + "00" * 6)
         self.ask("023E00")
         self.assertEqual(self.hear(), "7E8#027E00CCCCCCCCCC")
@@ -281,6 +307,24 @@ class ProgramTests(unittest.TestCase):
             self.assertEqual((ran.returncode, ran.stdout, ran.stderr), (0, "", ""))
             self.assertTrue(Path(f"{room}/j").read_text().startswith("diag-journal 2\n"))
 
+    def test_signals_while_it_ends(self) -> None:
+        code = """if True:
+            import os, signal, sys
+            from uds_unit import __main__ as it, bus
+
+            def stop(self, stop=bus.UnitBus.stop):
+                for number in 2 * (signal.SIGTERM, signal.SIGINT):
+                    os.kill(os.getpid(), number)
+                stop(self)
+
+            bus.UnitBus.stop = stop
+            it.time.sleep = lambda _: os.kill(os.getpid(), int(sys.argv.pop()))
+            sys.exit(it.main(sys.argv[1:-1]))"""
+        words = [sys.executable, "-c", code, "--interface", "virtual", "--channel", "x", str(SETUP)]
+        for first in (signal.SIGTERM, signal.SIGINT):
+            ran = subprocess.run([*words, str(int(first))], cwd=PACKAGE, capture_output=True, text=True, timeout=60)
+            self.assertEqual((ran.returncode, ran.stdout, ran.stderr), (0, "", ""))
+
     def opened(self, setup: bytes, fault: Exception, *words: str) -> tuple[int, str, bool]:
         """Where the bus has this fault: the program's status, its line, and whether it opened the bus for CAN FD."""
         from uds_unit.__main__ import main
@@ -309,6 +353,9 @@ class ProgramTests(unittest.TestCase):
             self.assertEqual(self.opened(by_fd, no_device), (1, f"{words}{told}\n", True))
 
     def test_faults(self) -> None:
+        from uds_unit import MemoryFault
+        from uds_unit.__main__ import main
+
         with tempfile.NamedTemporaryFile("w", suffix=".toml") as it:
             it.write("s3_ms = 1")
             it.flush()
@@ -318,6 +365,11 @@ class ProgramTests(unittest.TestCase):
         self.assertEqual(ran.returncode, 1)
         ran = self.run_program("--interface", "virtual", "--channel", "x", "no_such.toml")
         self.assertEqual((ran.returncode, ran.stderr), (1, "uds_unit: no_such.toml: No such file or directory\n"))
+        # (2 would tell of the setup)
+        with mock.patch("uds_unit.__main__._serve", side_effect=MemoryFault("memory")), mock.patch("signal.signal"):
+            with contextlib.redirect_stderr(io.StringIO()) as text:
+                self.assertEqual(main(["--interface", "virtual", "--channel", "x", str(SETUP)]), 1)
+        self.assertEqual(text.getvalue(), "uds_unit: memory\n")
         for seconds in ("-1", "nan", "x"):
             ran = self.run_program("--interface", "virtual", "--channel", "x", "--seconds", seconds, str(SETUP))
             self.assertEqual((ran.returncode, "argument --seconds: " in ran.stderr), (2, True), ran.stderr)
@@ -345,6 +397,7 @@ class FixtureTests(unittest.TestCase):
         own = [sys.executable, "-m", "pytest", "-q", "-p", "uds_unit.pytest_plugin", "-p", "no:cacheprovider"]
         return subprocess.run([*own, *words], cwd=PACKAGE, capture_output=True, text=True, timeout=120)
 
+
     def test_fixture(self) -> None:
         with tempfile.TemporaryDirectory() as room:
             Path(f"{room}/test_it.py").write_text(TESTS)
@@ -363,6 +416,18 @@ class FixtureTests(unittest.TestCase):
             Path(sub, "pytest.ini").write_text(f"[pytest]\nuds_setup = {SETUP.name}\n")
             ran = self.run_pytest("-k", "test_good", "--rootdir", room, "-c", f"{sub}/pytest.ini", f"{room}/test_it.py")
             self.assertIn("1 passed", ran.stdout, ran.stdout + ran.stderr)
+
+    def test_named_though_it_is_installed(self) -> None:
+        """The plugin that pytest finds by itself, and that of -p, are one."""
+        from wheel_of_unit import tell_of_package
+
+        with tempfile.TemporaryDirectory() as room:
+            tell_of_package(room)
+            Path(room, "test_it.py").write_text(TESTS)
+            Path(room, "pytest.ini").write_text(f"[pytest]\nuds_setup = {SETUP}\n")
+            with mock.patch.dict(os.environ, PYTHONPATH=room):
+                ran = self.run_pytest("-k", "test_good", room)
+        self.assertIn("1 passed", ran.stdout, ran.stdout + ran.stderr)
 
 
 if __name__ == "__main__":

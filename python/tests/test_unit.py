@@ -3,6 +3,7 @@ import copy
 import importlib.util
 import os
 import pickle
+import signal
 import tempfile
 import threading
 import unittest
@@ -10,12 +11,13 @@ from array import array
 from datetime import datetime, time, timedelta, timezone
 from decimal import Decimal
 from fractions import Fraction
+from math import inf, nextafter
 from pathlib import Path
 
 from uds_unit import ClosedFault, Frame, FrameFault, SetupFault, Unit, UnitFault, toml
 
 SETUP = Path(__file__).resolve().parent.parent.parent / "demo/setup.toml"
-EXTENDED = bytes.fromhex("021003")
+EXTENDED, PRESENT = bytes.fromhex("021003"), bytes.fromhex("023E00")
 # two testers of 29 bits, and one of 11
 WIDE = b"""tester = [
     { name = "A", request = 0x18DA10F1, response = 0x18DAF110, extended = true },
@@ -61,6 +63,21 @@ class UnitTests(unittest.TestCase):
         self.assertEqual(self.unit.due, 1.012)
         self.assertEqual([it.time for it in self.unit.advance(self.unit.due)], [1.012])
         self.assertIsNone(self.unit.due)
+
+    def test_no_frame_before_it_is_due(self) -> None:
+        self.unit.frame(0.0, 0x7E0, bytes.fromhex("0322F190"))
+        self.unit.frame(0.001, 0x7E0, bytes.fromhex("30000A"))
+        for early in (0.0105, 0.0109996, nextafter(0.011, 0)):
+            self.assertEqual((self.unit.advance(early), self.unit.due), ([], 0.011))
+        self.assertEqual([it.time for it in self.unit.advance(0.011)], [0.011])
+
+    def test_moments_go_down_to_their_millisecond(self) -> None:
+        """One that the unit tells is itself, and the float before it is in the millisecond before."""
+        for first in (0, -1_500, 1_763_800_001_000, 6_000_000_000_000):
+            with Unit(SETUP) as unit:
+                for time, next in ((it / 1000, (it + 1) / 1000) for it in range(first, first + 2_000)):
+                    self.assertEqual([it.time for it in unit.frame(time, 0x7E0, PRESENT)], [time])
+                    self.assertEqual([it.time for it in unit.frame(nextafter(next, -inf), 0x7E0, PRESENT)], [time])
 
     def test_time_goes_on(self) -> None:
         self.unit.advance(1.0)
@@ -176,6 +193,25 @@ class UnitTests(unittest.TestCase):
         for it in threads:
             it.join()
         self.assertEqual(faults, [])
+
+    def test_a_handler_that_calls_the_unit(self) -> None:
+        """The signal comes when a reply was handed out and isn't looked at yet: none is lost, and none comes twice."""
+        take, inner = self.unit._next, []
+
+        def take_and_signal(*words: object) -> int:
+            status = take(*words)
+            signal.raise_signal(signal.SIGUSR1)
+            return status
+
+        def ask(*_: object) -> None:
+            self.unit._next = take
+            inner.extend(self.unit.frame(0.0, 0x7A0, PRESENT))
+
+        self.addCleanup(signal.signal, signal.SIGUSR1, signal.signal(signal.SIGUSR1, ask))
+        self.unit._next = take_and_signal
+        outer = self.unit.frame(0.0, 0x7E0, PRESENT)
+        # (a signal behind the reply, and one behind the answer that there is no other)
+        self.assertEqual([[it.id for it in frames] for frames in (outer, inner)], [[0x7E8], [0x7A8, 0x7A8]])
 
     def test_values(self) -> None:
         values = self.unit.values

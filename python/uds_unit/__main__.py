@@ -6,9 +6,9 @@ import signal
 import sys
 import time
 from collections.abc import Iterator
-from typing import TYPE_CHECKING, TextIO
+from typing import TYPE_CHECKING, NoReturn, TextIO
 
-from .faults import UnitFault
+from .faults import SetupFault, UnitFault
 from .unit import Unit, read_setup
 
 if TYPE_CHECKING:
@@ -36,7 +36,7 @@ def _arguments() -> argparse.ArgumentParser:
     parser = argparse.ArgumentParser(
         prog="python -m uds_unit",
         description="A diagnostic server on a CAN bus, until Ctrl-C or SIGTERM.",
-        epilog="The status is 2 where the words or the setup are at fault, 1 where the bus or a file is, else 0.",
+        epilog="The status is 2 where the words or the setup are at fault, 1 where the bus, a file or the memory is, else 0.",
     )
     parser.add_argument("--interface", required=True, help="python-can's interface, as socketcan, pcan, vector, kvaser, virtual")
     parser.add_argument("--channel", required=True, help="the channel, as can0 or PCAN_USBBUS1")
@@ -49,22 +49,33 @@ def _arguments() -> argparse.ArgumentParser:
     return parser
 
 
+def _end(*_: object) -> NoReturn:
+    """Ends the program at a signal; those that come while it ends are passed over."""
+    for it in (signal.SIGINT, signal.SIGTERM):
+        signal.signal(it, signal.SIG_IGN)
+    raise KeyboardInterrupt
+
+
 def main(words: list[str] | None = None) -> int:
-    """The program; its status is 2 where the setup is at fault, 1 where the bus or a file is."""
+    """The program; its status is 2 where the setup is at fault, 1 where the bus, a file or the memory is."""
     given = _arguments().parse_args(words)
     try:
         import can
     except ImportError:
         print("uds_unit: python-can is not installed (pip install python-can, or apt-get install python3-can)", file=sys.stderr)
         return 1
-    # (SIGTERM ends it as Ctrl-C does)
-    signal.signal(signal.SIGTERM, signal.default_int_handler)
+    signal.signal(signal.SIGTERM, _end)
+    # (where it is passed over from the start, as behind a shell's &, it stays so)
+    if signal.getsignal(signal.SIGINT) is signal.default_int_handler:
+        signal.signal(signal.SIGINT, _end)
     try:
         _serve(given)
-    except UnitFault as fault:
+    except KeyboardInterrupt:
+        return 0
+    except SetupFault as fault:
         print(f"uds_unit: {fault}", file=sys.stderr)
         return 2
-    except (can.CanError, OSError, ValueError) as fault:
+    except (UnitFault, can.CanError, OSError, ValueError) as fault:
         print(f"uds_unit: {_fault_words(fault)}", file=sys.stderr)
         return 1
     return 0
@@ -122,11 +133,8 @@ def _open_bus(given: argparse.Namespace, by_fd: bool) -> "can.BusABC":
 
 def _wait(unit: "UnitBus", seconds: float | None) -> None:
     end = None if seconds is None else time.monotonic() + seconds
-    try:
-        while unit.fault is None and (end is None or time.monotonic() < end):
-            time.sleep(0.05)
-    except KeyboardInterrupt:
-        pass
+    while unit.fault is None and (end is None or time.monotonic() < end):
+        time.sleep(0.05)
 
 
 if __name__ == "__main__":

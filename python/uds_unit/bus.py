@@ -8,7 +8,7 @@ from typing import Self
 
 import can
 
-from .unit import Frame, Unit
+from .unit import LOW_11, LOW_29, Frame, Unit
 
 # the most seconds without a look whether to stop
 PATIENCE = 0.05
@@ -28,8 +28,9 @@ def carried(message: can.Message) -> bytes | None:
 
 
 class UnitBus:
-    """A unit of a setup on a bus, in a thread of its own from `start` (or `with`) to `stop`. The bus stays the caller's, but
-    while the thread runs nobody else reads from it: a Notifier, as any tester, wants a bus of its own on the channel.
+    """A unit of a setup on a bus, in a thread of its own from `start` (or `with`) to `stop`; without `stop` it serves on, also
+    where nobody has it any more. The bus stays the caller's, but while the thread runs nobody else reads from it: a Notifier, as
+    any tester, wants a bus of its own on the channel.
 
     The unit's time is the machine's monotonic clock. Where a frame goes late, all that is due behind it goes as much later,
     until nothing is waited for: so two frames are never nearer to each other than their separation time. A frame that the bus
@@ -138,7 +139,7 @@ class UnitBus:
         self._catch_up()
 
     def _catch_up(self) -> None:
-        """Lets the unit's time pass up to now, where it was started and no frame is due before: those are the thread's. While
+        """Lets the unit's time pass up to now, where it was started and no frame is due by then: those are the thread's. While
         nothing comes and nothing is asked no time passes, so a silent bus makes no entries of a journal."""
         due, now = self._unit.due, self._now()
         if self._thread is not None and (due is None or now < due):
@@ -198,7 +199,10 @@ class UnitBus:
         )
 
     def _is_taken(self, message: can.Message) -> bool:
-        """Whether the unit is given a message: data of the others, by CAN FD only where a tester asks so by its identifier."""
+        """Whether the unit is given a message: data of the others, by CAN FD only where a tester asks so by its identifier. One
+        with an identifier that no frame has, as a virtual bus may carry it, isn't."""
         if message.is_error_frame or message.is_remote_frame or not message.is_rx:
+            return False
+        if not 0 <= message.arbitration_id <= (LOW_29 if message.is_extended_id else LOW_11):
             return False
         return not message.is_fd or (message.arbitration_id, message.is_extended_id) in self._unit.fd_requests

@@ -18,7 +18,7 @@ EXTENDED = 1 << 31
 LOW_11, LOW_29 = (1 << 11) - 1, (1 << 29) - 1
 # the functional identifiers that a setup needn't tell (ISO 15765-4)
 FUNCTIONAL, FUNCTIONAL_29 = 0x7DF, 0x18DB33F1
-MICRO = 1_000_000
+MILLI, MICRO = 1_000, 1_000_000
 NEVER = 2**64 - 1
 # the longest step at once, in microseconds: what it takes, time and with a journal memory, is in proportion to it
 CENTURY = 36_525 * 86_400 * MICRO
@@ -75,6 +75,12 @@ def _raw(data: bytes) -> bytes:
     return raw
 
 
+def _reply() -> tuple[Reply, Any, Any]:
+    """Room for a reply, the pointer to it, and its bytes, which cost time to make."""
+    reply = Reply()
+    return reply, byref(reply), reply.bytes
+
+
 def _no_frame(id: int, extended: bool, length: int) -> str:
     """Why there is no such frame."""
     if not 0 <= id <= LOW_29:
@@ -95,8 +101,9 @@ def _fd_requests(setup: dict[str, Any]) -> Iterator[tuple[int, bool]]:
 
 class Unit:
     """A unit of a setup, to which nothing has happened yet. It reads no clock: time is what the caller says, in seconds from
-    any zero. The first moment that it is given is where its time begins. Threads may share a unit: it takes one call at a time.
-    It can't be copied.
+    any zero, rounded down to milliseconds. The first moment that it is given is where its time begins. Threads may share a unit:
+    it takes one call at a time. A signal's handler may call it, too, in the middle of a call; each frame is then handed out by
+    one of the two. It can't be copied.
 
     `setup` is the path of a setup in TOML, or the bytes of one. With `journal` the unit keeps the lines of its journal
     until `journal()` hands them out.
@@ -115,11 +122,10 @@ class Unit:
         self._ahead = 0
         self._handle = Handle()
         self._at = byref(self._handle)
-        self._reply = Reply()
-        self._reply_at = byref(self._reply)
         # (looked up once, for they are wanted for each frame)
         self._frame, self._next = self._library.uds_unit_frame, self._library.uds_unit_next
-        self._bytes = self._reply.bytes
+        # replies that no call is filling: each takes one of its own, also one in the middle of another
+        self._spare: list[tuple[Reply, Any, Any]] = []
         config = read_setup(setup)
         text = create_string_buffer(1024)
         call = self._library.uds_unit_open_with_journal if journal else self._library.uds_unit_open
@@ -141,7 +147,8 @@ class Unit:
         """The values of the data identifiers: a mapping from identifier to bytes."""
 
     def close(self) -> None:
-        """Frees the unit. Every other call of a closed unit raises ClosedFault; this one does nothing again."""
+        """Frees the unit. From then on every other call raises ClosedFault, unless its arguments are at fault already; this one
+        does nothing again."""
         self._call("close")
 
     def __enter__(self) -> Self:
@@ -229,15 +236,21 @@ class Unit:
             return getattr(self._library, f"uds_unit_{name}")(self._at, *arguments)
 
     def _moment(self, time: float) -> int:
-        """A moment in the library's microseconds."""
+        """A moment in the library's microseconds, down to its millisecond, as the library takes it."""
         if not isfinite(time):
             raise ValueError(f"a moment is a finite number of seconds, and not {time}")
         # (a number of NumPy's may have few bits)
-        at = round(float(time) * MICRO)
+        time = float(time)
+        at = round(time * MILLI)
+        # (by the quotient as which the unit tells a moment: so that one is itself, and none before it is)
+        if at / MILLI > time:
+            at -= 1
+        at *= 1000
         if self._latest < 0:
-            # (by whole milliseconds, to which the library rounds)
-            self._ahead = max(-(at // 1000), 0) * 1000
-        at = min(max(at + self._ahead, 0), NEVER)
+            self._ahead = max(-at, 0)
+        at += self._ahead
+        if not 0 <= at <= NEVER:
+            at = 0 if at < 0 else NEVER
         if at - self._latest > CENTURY and self._latest >= 0:
             raise ValueError("more than 100 years at once")
         return at
@@ -247,11 +260,17 @@ class Unit:
         if at > self._latest:
             self._latest = at
         frames = []
-        reply, held, take, ahead = self._reply, self._bytes, self._next, self._ahead
-        while take(self._at, self._reply_at) == DONE:
+        take, ahead = self._next, self._ahead
+        try:
+            spare = self._spare.pop()
+        except IndexError:
+            spare = _reply()
+        reply, reply_at, held = spare
+        while take(self._at, reply_at) == DONE:
             data, id = bytes(held)[: reply.len], reply.id
             tester = self.testers[reply.tester - 1]
             frames.append(Frame((reply.at_us - ahead) / MICRO, id & LOW_29, data, tester, id >= EXTENDED, reply.fd == 1))
+        self._spare.append(spare)
         return frames
 
     def _check(self, status: int) -> None:
