@@ -257,25 +257,25 @@ fn push_lengthened(list: &mut Vec<LongSent>, at: u64, id: CanId, bytes: FrameByt
     ensures len { vec_len list.new ≡ vec_len list.old + 1 }
     ensures capacity { vec_capacity list.new ≡ vec_capacity list.old }
 {
+    let index = list.len();
     list.push_reserved(LongSent {
         at,
         id,
-        bytes: long_of(bytes.as_slice()),
+        bytes: FdBytes::new(),
     });
+    append_short(&mut list[index].bytes, bytes.as_slice());
 }
 
-/// Bytes of a classic frame where longer ones have room, too. (Most are eight, which are moved together.)
+/// Adds the bytes of a classic frame. (Most are eight, which are moved together.)
 #[inline(always)]
-fn long_of(bytes: &[u8]) -> FdBytes
-    requires { length bytes.now ≤ 64 }
-    ensures { result ≡ bytes.now }
+fn append_short(long: &mut FdBytes, bytes: &[u8])
+    requires { length long.old + length bytes.now ≤ 64 }
+    ensures { long.new ≡ long.old ++ bytes.now }
 {
-    let mut long = FdBytes::new();
     match bytes.as_array::<8>() {
         Some(eight) => long.append(eight),
         None => long.append(bytes),
     }
-    long
 }
 
 /// Adds the next frame that is due of a link, which goes at this time.
