@@ -174,6 +174,10 @@ mv "$copy/crates/diag_can/src/moved.rt" "$copy/crates/diag_can/src/lib.rt"
 again
 ran "${without_kit[@]}" ./uds_play --version
 holds "with all as it was it runs again" 0 'uds_play '
+touch "$copy/crates/diag_can/src/.lib.rt.swp" "$copy/crates/diag_can/src/lib.rt~"
+ran "${without_kit[@]}" ./uds_play --version
+holds "what an editor leaves beside a source is none" 0 'uds_play '
+rm "$copy/crates/diag_can/src/.lib.rt.swp" "$copy/crates/diag_can/src/lib.rt~"
 
 # which way the library would be built
 would_build() {

@@ -28,9 +28,9 @@ say() { echo "release: $*" >&2; }
 
 sum_of() { sha256sum < "$1" | cut -d' ' -f1; }
 
-# The names and sums of all sources, sorted, as one sum.
+# The names and sums of all sources, sorted, as one sum; without what editors leave beside them.
 sources() {
-  find "${read_by_build[@]}" -regex 'crates/[^/]*/out' -prune -o -name __pycache__ -prune -o -type f -print0 | LC_ALL=C sort -z \
+  find "${read_by_build[@]}" -regex 'crates/[^/]*/out' -prune -o -name __pycache__ -prune -o -name '.*' -o -name '*~' -o -type f -print0 | LC_ALL=C sort -z \
     | xargs -0 sha256sum | sha256sum | cut -d' ' -f1
 }
 

@@ -3,6 +3,7 @@
 ghost use Rattle.diag_setup.specs.Setup.{known_ids};
 ghost use Rattle.diag_bus.specs.Events.{line_said};
 ghost use Rattle.std.specs.Prelude.{◌≡◌, ◌≤◌, [], ◌++◌, ℕ, List, length, IfOk, OnOk, OnErr, Ok};
+ghost use Rattle.std.specs.List.{All};
 ghost use Rattle.diag_port.specs.Port.{Grew};
 ghost use Rattle.diag_world.specs.Block.{some_in_block};
 ghost use Rattle.diag_world.specs.Server.{quiet_of};
@@ -192,8 +193,12 @@ impl<S: Sink> Bus<S> {
 }
 
 /// So many empty lists.
-fn empty_lists(alloc: Global, count: usize) -> Result<Vec<SentFrames>, AllocError>
-    ensures { IfOk result (λ lists. length lists.items ≡ count) }
+///
+/// # Errors
+/// `AllocError` where memory is refused.
+pub fn empty_lists(alloc: Global, count: usize) -> Result<Vec<SentFrames>, AllocError>
+    ensures many { IfOk result (λ lists. length lists.items ≡ count) }
+    ensures empty { IfOk result (λ lists. All (λ list. list.items ≡ []) lists.items) }
 {
     let mut lists = Vec::new(alloc);
     for made in 0..count {

@@ -17,7 +17,8 @@ pub fn clocks_law()
 
 /// A verdict means what it says: the line that it names is the first that has a frame of the unit's where the server sends
 /// another, or none; the tester of whom it says that frames are missing is the first such where no line differs; and it
-/// says that all agree exactly where of each tester the frames of the recording are those that the server sends.
+/// says that all agree exactly where of each tester the frames of the recording, without response pending, are those that the
+/// server sends.
 pub fn verdict_law()
     ensures { VerdictLaw }
 {}

@@ -19,14 +19,14 @@ mod sink;
 mod verdict;
 mod writing;
 
-pub use bus::Bus;
+pub use bus::{Bus, empty_lists};
 pub use clock::{Clock, Start};
 pub use comparing::Comparisons;
 pub use fault::BusFault;
 pub use filled::Filled;
 pub use journal::Journal;
 pub use laws::{clocks_law, run_law, verdict_law};
-pub use line_frames::LineFrames;
+pub use line_frames::{LineFrames, clear_all};
 pub use no_text::NoText;
 pub use replies::Replies;
 pub use request_ids::{Owner, RequestIds};

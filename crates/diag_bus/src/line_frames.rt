@@ -47,7 +47,7 @@ fn clear(drawn: &mut Vec<SentFrames>, filled: Filled)
 }
 
 /// Empties each tester's list.
-fn clear_all(drawn: &mut Vec<SentFrames>)
+pub fn clear_all(drawn: &mut Vec<SentFrames>)
     ensures empty { (i : ℕ) (frames : List ASent)
         → slice_get (map (λ f. f.items) drawn.new.items) i ≡ Some frames → frames ≡ [] }
     ensures lists { length drawn.new.items ≡ length drawn.old.items }

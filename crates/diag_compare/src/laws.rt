@@ -22,12 +22,13 @@ pub fn tells_law()
     ensures { TellsLaw }
 {}
 
-/// Where the status is 0, the unit sent to each request what the server replies, and nothing unasked.
+/// Where the status is 0, the unit sent to each request what the server replies, as `agrees` says, and nothing unasked.
 pub fn status_law()
     ensures { StatusLaw }
 {}
 
-/// Where the status is 0, each tester's exchanges are those of the run of the capture, and the unit sent what it replies there.
+/// Where the status is 0, each tester's exchanges are those of the run of the capture, and the unit sent what it replies there,
+/// as `agrees` says.
 pub fn agreed_law()
     ensures { AgreedLaw }
 {}

@@ -2,6 +2,7 @@
 use Rattle.std.proofs.Common.{◌≡◌, ℕ, zero, suc, ◌+◌, ◌-◌, ◌<◌, ◌==◌, ◌⊎◌, inl, inr, Bool, true, false, cond, not, ◌&&◌, List, [], ◌∷◌, length, drop, slice_get, slice_index, slice_set, Option, Some, None, Ok, Err, refl, sym, ap, ◌∙◌, arith}
 use Rattle.std.specs.Prelude.{nat_le, is_some, is_none, ◌||◌, ◌/◌, ◌%◌, bytes_eq, unwrap_or, option_map, if◌then◌else◌}
 use Rattle.diag_setup.specs.Setup.{first_holding}
+use Rattle.diag_setup.proofs.SetupLemmas.{none_hold}
 use Rattle.diag_store.specs.Answers as answers
 use Rattle.diag_store.specs.Dids as dids
 use Rattle.diag_store.specs.Dtcs as dtcs
@@ -133,19 +134,6 @@ routine_keeps s id n =
 
 -- ---- the key
 
--- no check of the list holds
-abbrev NoneHold : List ecu.Check → Type 0
-NoneHold [] = Unit {0}
-NoneHold (check ∷ rest) = (check.0 ≡ false) × NoneHold rest
-
-all_pass : (checks : List ecu.Check) → first_holding checks ≡ None → NoneHold checks
-all_pass [] e = tt
-all_pass (check ∷ rest) e =
-    elim check.0 as (λ b. cond b (Some check.1) (first_holding rest) ≡ None → (b ≡ false) × NoneHold rest) [
-      | true ↦ λ p. cc
-      | false ↦ λ p. (refl, all_pass rest p)
-    ] e
-
 and_false : (a b : Bool) → a ≡ true → (a && b) ≡ false → b ≡ false
 and_false true b h e = e
 and_false false b h e = cc
@@ -190,7 +178,7 @@ key_passes : (s : State) (who : ℕ) (p : List ℕ) → ecu.is_seed_request s p 
     → first_holding (ecu.checks s who SecurityAccess p) ≡ None
     → (s.holder ≡ Some who) × KeyOf s who p who (ecu.key_level p)
 key_passes s who p key passes =
-    let h = all_pass (ecu.checks s who SecurityAccess p) passes in
+    let h = none_hold (ecu.checks s who SecurityAccess p) passes in
     let is_key : not (ecu.is_seed_request s p) ≡ true = rw key refl in
     let known : ℕ → Bool = λ n. is_some (security.level_of s.security n) in
     let level = ecu.key_level p in
@@ -434,7 +422,7 @@ open_unlocked s who level above e =
 write_passes : (s : State) (who id : ℕ) (p : List ℕ) → first_holding (ecu.checks s who WriteDataByIdentifier p) ≡ None
     → ecu.positive_reply s WriteDataByIdentifier p ≡ 0x6E ∷ bytes_16 id → 0 < write_level_of s id → HasUnlocked s who (write_level_of s id)
 write_passes s who id p passes e above =
-    let h = all_pass (ecu.checks s who WriteDataByIdentifier p) passes in
+    let h = none_hold (ecu.checks s who WriteDataByIdentifier p) passes in
     let number = number_16 p 1 in
     let high : number / 256 ≡ id / 256 = ap (λ (x : List ℕ). slice_index x 1) e in
     let low : number % 256 ≡ id % 256 = ap (λ (x : List ℕ). slice_index x 2) e in

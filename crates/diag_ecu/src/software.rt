@@ -1,6 +1,7 @@
 //! What the ECU's own software changes while it runs, without a request of a tester.
 
 ghost use Rattle.std.specs.Prelude.{◌≡◌, OnOk, OnErr, is_some};
+ghost use Rattle.std.specs.Bool.{OnFalse};
 ghost use Rattle.diag_store.specs.Dids.{with_value, write_answer};
 ghost use Rattle.diag_store.specs.Dtcs.{status_of, with_status};
 
@@ -21,10 +22,12 @@ impl Ecu {
         self.dids.write(id, value)
     }
 
-    /// Gives a DTC another statusOfDTC, also where ControlDTCSetting holds status bits; whether the DTC is known.
+    /// Gives a DTC another statusOfDTC, also where ControlDTCSetting holds status bits; whether the DTC is known. All is as
+    /// before where it isn't.
     pub fn set_status(&mut self, code: u32, status: u8) -> bool
         ensures known { result ≡ is_some (status_of self.old.dtcs code) }
         ensures set { self.new ≡ record self.old { dtcs = with_status self.old.dtcs code status } }
+        ensures unknown { OnFalse result (self.new ≡ self.old) }
     {
         self.dtcs.set(code, status)
     }

@@ -3,6 +3,7 @@ use Rattle.std.proofs.Common.{◌≡◌, ℕ, zero, suc, ◌-◌, ◌==◌, Bool
 use Rattle.std.specs.Prelude.{find, nat_le, option_map, if◌then◌else◌}
 use Rattle.std.proofs.lemmas.Bool.{eqb-true, not-false}
 use Rattle.diag_setup.specs.Setup.{first_holding}
+use Rattle.diag_setup.proofs.SetupLemmas.{none_hold}
 use Rattle.diag_setup.specs.declared.raw.RawDid.{RawDid}
 use Rattle.diag_setup.specs.declared.raw.RawSetup.{RawSetup}
 use Rattle.diag_store.specs.Answers as answers
@@ -98,19 +99,6 @@ elapse_lengths s who (suc n) =
 
 -- ---- a request
 
--- none of these conditions holds
-abbrev NoneHold : List ecu.Check → Type 0
-NoneHold [] = Unit {0}
-NoneHold (check ∷ rest) = (check.0 ≡ false) × NoneHold rest
-
-all_pass : (checks : List ecu.Check) → first_holding checks ≡ None → NoneHold checks
-all_pass [] e = tt
-all_pass (check ∷ rest) e =
-    elim check.0 as (λ b. cond b (Some check.1) (first_holding rest) ≡ None → (b ≡ false) × NoneHold rest) [
-      | true ↦ λ p. cc
-      | false ↦ λ p. (refl, all_pass rest p)
-    ] e
-
 -- what is told of a service that passes all checks is its effect
 own_done : (s : State) (who : ℕ) (service : Service) (p : List ℕ) → ecu.done s who p (ecu.own_effect service) ≡ ecu.effect s who service p
 own_done s who EcuReset p = refl
@@ -134,7 +122,7 @@ effect_lengths s who SecurityAccess p passes =
     either s (record s { security = security.after_seed s.security who (ecu.sub p) })
     (record s { security = security.after_key s.security who (ecu.key_level p) (drop 2 p) }) (ecu.is_seed_request s p) (λ id. refl) (λ id. refl)
 effect_lengths s who WriteDataByIdentifier p passes =
-    let h = all_pass (ecu.checks s who WriteDataByIdentifier p) passes in
+    let h = none_hold (ecu.checks s who WriteDataByIdentifier p) passes in
     let same = not-false (has_length s.dids (number_16 p 1) (length (drop 3 p))) h.1.1.1.1.1.1.1.0 in
     λ id. written s.dids (number_16 p 1) id (drop 3 p) same
 effect_lengths s who RoutineControl p passes =

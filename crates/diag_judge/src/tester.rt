@@ -1,6 +1,6 @@
 //! A tester of a recording.
 
-ghost use Rattle.std.specs.Prelude.{◌≡◌, ◌≤◌, ◌<◌, ◌+◌, true, None, [], ◌∷◌, ◌++◌, List, length, map, option_copied, OnOk, IfOk};
+ghost use Rattle.std.specs.Prelude.{◌≡◌, ◌≤◌, ◌<◌, ◌+◌, true, false, None, [], ◌∷◌, ◌++◌, List, length, map, option_copied, OnOk, IfOk};
 ghost use Rattle.diag_can.specs.Event.{Physical};
 ghost use Rattle.diag_exchange.specs.Agreeing.{agrees};
 ghost use Rattle.diag_exchange.specs.Over.{Over as AnOver};
@@ -188,6 +188,7 @@ impl Tester {
     pub fn is_idle(&self) -> bool
         ensures entered { result ≡ true → self.now.entered.items ≡ [] }
         ensures coming { result ≡ true → self.now.listener.exchanges.coming ≡ None }
+        ensures busy { result ≡ false → (self.now.entered.items ≡ []) × (self.now.listener.exchanges.coming ≡ None) → ⊥ }
     {
         self.entered.is_empty() && self.listener.exchanges.coming.is_none()
     }

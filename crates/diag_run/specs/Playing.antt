@@ -19,7 +19,8 @@ use Rattle.diag_desk.specs.Text.{text_of, ticks_of}
 use Rattle.diag_world.specs.Server.{EachRun, Served, Serves, sent_to, server_of}
 use Rattle.diag_world.specs.Weaving.{items_of}
 use Rattle.diag_bus.specs.Node.{IsBy}
-use Rattle.diag_text.specs.Text.{end_text, lines_of, writer_of}
+use Rattle.diag_bus.specs.Writing.{writer_of}
+use Rattle.diag_text.specs.Text.{end_text, lines_of}
 use Rattle.diag_run.specs.declared.journal_lines.JournalLines.{JournalLines}
 use Rattle.diag_run.specs.declared.replies.ReplyLines.{ReplyLines}
 use Rattle.diag_run.specs.declared.playing.Playing.{Playing}

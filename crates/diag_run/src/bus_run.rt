@@ -32,8 +32,8 @@ const LINES_BEFORE_A_READ: u64 = u64::MAX - 65_537;
 /// The first fault in this order: the config, the capture in the order of its bytes, and last, where a verdict is wanted,
 /// that the unit answered otherwise. After a fault of the config nothing was written, nor before the `Otherwise` of a verdict.
 /// Before a fault of a line, and after a read that failed, what the lines before write was written; after `Memory` and `Write`
-/// a front of it. `Read(0)` is the config, `Read(1)` the capture: each only where a read of it failed, or behind so many
-/// bytes of a capture that the lines of more can't be counted. `Write` only where a write or a flush failed.
+/// a front of it. `Read(0)` is the config, `Read(1)` the capture: each just where a read of it failed, the latter also behind
+/// so many bytes that the lines of more can't be counted. `Write` only where a write or a flush failed.
 pub fn run_bus<S: Ending, R: Source, W: Target>(
     alloc: Global,
     sink: S,
@@ -47,6 +47,7 @@ pub fn run_bus<S: Ending, R: Source, W: Target>(
     ensures fault { IfErr result (Stops R.remaining (wanted S.written S.ends S.aim sink) config.old config.new
         capture.old capture.new (W.contents out.old) (W.contents out.new)) }
     ensures config { result ≡ Err (RunFault.Read 0) → R.failed config.new }
+    ensures config_sound { result ≢ Err (RunFault.Read 0) → R.sound config.old → R.sound config.new }
     ensures read { result ≡ Err (RunFault.Read 1) → R.failed capture.new
         ⊎ Takes (R.remaining capture.old) (R.remaining capture.new) (λ bytes. most_counted < length bytes) }
     ensures sound { result ≢ Err (RunFault.Read 1) → R.sound capture.old → R.sound capture.new }

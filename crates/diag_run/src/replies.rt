@@ -1,7 +1,8 @@
 //! The reply lines of a tester, as they are written frame by frame.
 
 ghost use Rattle.std.specs.Prelude.{◌≡◌, ◌≤◌, ◌++◌, [], if◌then◌else◌, length, IfOk, OnOk};
-ghost use Rattle.diag_text.specs.Text.{lines_of, writer_of};
+ghost use Rattle.diag_bus.specs.Writing.{writer_of};
+ghost use Rattle.diag_text.specs.Text.{lines_of};
 ghost use Rattle.diag_run.specs.Playing.{AreTexts, AreUnwritten, Replies, WroteTo};
 
 use diag_can::LineWriter;

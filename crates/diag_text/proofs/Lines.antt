@@ -4,7 +4,8 @@ use Rattle.std.specs.List.{concat}
 use Rattle.std.proofs.lemmas.List.Folds.{concat-append}
 use Rattle.diag_tp.specs.declared.sent.Sent.{Sent}
 use Rattle.diag_setup.specs.declared.raw.RawSetup.{RawSetup}
-use Rattle.diag_text.specs.Text.{lines_of, lines_from, writer_of}
+use Rattle.diag_bus.specs.Writing.{writer_of}
+use Rattle.diag_text.specs.Text.{lines_of, lines_from}
 
 pub lines_here : (setup : RawSetup) (text : List ℕ) (n : ℕ) (sent : List Sent) (others : List (List Sent)) (total : List ℕ)
     → text ++ lines_from setup n (sent ∷ others) ≡ total → (text ++ lines_of (writer_of setup n) sent) ++ lines_from setup (n + 1) others ≡ total

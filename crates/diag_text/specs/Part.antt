@@ -2,7 +2,8 @@
 use Rattle.std.specs.Prelude.{◌≤◌, ◌-◌, ℕ, List, length, take, drop}
 use Rattle.diag_tp.specs.SentFrames.{SentList}
 use Rattle.diag_setup.specs.declared.raw.RawSetup.{RawSetup}
-use Rattle.diag_text.specs.Text.{lines_of, writer_of}
+use Rattle.diag_bus.specs.Writing.{writer_of}
+use Rattle.diag_text.specs.Text.{lines_of}
 use Rattle.diag_text.specs.declared.text.Part.{Part}
 
 -- these frames are there

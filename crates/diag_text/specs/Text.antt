@@ -7,18 +7,15 @@ use Rattle.diag_can.specs.declared.log.Timing.{Timing}
 use Rattle.diag_can.specs.declared.log.Timing.TheVariants.{Lines, Stamps}
 use Rattle.diag_tp.specs.declared.sent.Sent.{Sent}
 use Rattle.diag_can.specs.WriterView.{WriterView}
-use Rattle.diag_setup.specs.Setup.{name_of, flags_of}
+use Rattle.diag_setup.specs.Setup.{name_of}
 use Rattle.diag_setup.specs.declared.raw.RawSetup.{RawSetup}
 use Rattle.diag_store.specs.declared.dtcs.Dtc.{Dtc}
 use Rattle.diag_ecu.specs.Bytes.{bytes_24}
 use Rattle.diag_ecu.specs.State.{State, session_of}
+use Rattle.diag_bus.specs.Writing.{writer_of}
 use Rattle.diag_desk.specs.declared.entry.Entry.{Entry}
 use Rattle.diag_desk.specs.Legal.{Run, after}
 use Rattle.diag_desk.specs.Text.{journal_text, journal_text_at}
-
--- what the reply lines of a tester say of it
-abbrev pub writer_of : RawSetup → ℕ → WriterView
-writer_of setup n = record { name = name_of setup n; flags = flags_of setup n }
 
 -- the reply lines of one tester
 abbrev pub lines_of : WriterView → List Sent → List ℕ

@@ -31,7 +31,7 @@ pub enum PlayFault {
     Memory,
     /// The log of this tester is at fault, and all logs before it are well.
     Log(TesterId, LogFault),
-    /// The journal has 1,000,000 entries.
+    /// The journal is full, as it is with 1,000,000 entries.
     JournalFull,
     /// Never answered: that the workers' records are the journal's entries is proved.
     RecordsDisagree(TesterId),

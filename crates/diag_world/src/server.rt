@@ -27,6 +27,7 @@ ghost use Rattle.diag_world.specs.Weaving.{items_of};
 ghost use Rattle.diag_port.specs.Fault.{IsFaultBy};
 ghost use Rattle.diag_port.specs.Port.{IsAtRest, port_of, port_quiet};
 ghost use Rattle.diag_port.specs.Standing.{GivesStep};
+ghost use Rattle.std.specs.Bool.{OnFalse};
 ghost use Rattle.std.specs.List.{list_any};
 ghost use Rattle.diag_port.specs.Block.{port_in_block};
 ghost use Rattle.diag_world.specs.Block.{some_in_block};
@@ -218,6 +219,7 @@ impl Server {
         ensures known { result ≡ is_some (status_of self.old.ecu.dtcs code) }
         ensures set { WasSet (server_of self.old) (server_of self.new)
             (record self.old.ecu { dtcs = with_status self.old.ecu.dtcs code status }) }
+        ensures unknown { OnFalse result (self.new ≡ self.old) }
         ensures room { self.new.ports ≡ self.old.ports }
     {
         self.ecu.set_status(code, status)

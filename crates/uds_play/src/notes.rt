@@ -583,18 +583,7 @@ fn note_unseen<R: Eprint + AllocGlobal>(
     if looked.is_timed {
         recording.time();
     }
-    for (index, tester) in setup.testers.as_slice().iter().enumerate() {
-        if looked.only.is_none_or(|only| only == index) {
-            recording.side(Side {
-                name: str::from_utf8(tester.name.as_slice()).unwrap_or(""),
-                request: tester.request,
-                response: tester.response,
-                functional: functional_number(setup, tester),
-                extended: tester.extended,
-                fd: tester.fd,
-            })?;
-        }
-    }
+    add_sides(&mut recording, setup, looked.only)?;
     recording.look(text)?;
     let part = if text.len() < MOST_LOOK {
         ""
@@ -605,6 +594,27 @@ fn note_unseen<R: Eprint + AllocGlobal>(
         note(rt, line.as_str());
     }
     Ok(recording.is_one_silent())
+}
+
+/// Adds the testers that are looked for: all, or the one at a place.
+fn add_sides<'a>(
+    recording: &mut Recording<'a>,
+    setup: &'a RawSetup,
+    only: Option<usize>,
+) -> Result<(), AllocError> {
+    for (index, tester) in setup.testers.as_slice().iter().enumerate() {
+        if only.is_none_or(|only| only == index) {
+            recording.side(Side {
+                name: str::from_utf8(tester.name.as_slice()).unwrap_or(""),
+                request: tester.request,
+                response: tester.response,
+                functional: functional_number(setup, tester),
+                extended: tester.extended,
+                fd: tester.fd,
+            })?;
+        }
+    }
+    Ok(())
 }
 
 /// The number of a tester's functional identifier.

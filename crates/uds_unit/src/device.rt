@@ -1,6 +1,7 @@
 //! A unit on a bus: the server, the clock, and what is due.
 
 ghost use Rattle.std.specs.Prelude.{◌≡◌, ◌≤◌, [], length, IfOk, IfSome, IfNone, OnOk, OnErr, is_some, option_map, slice_get};
+ghost use Rattle.std.specs.Bool.{OnFalse};
 ghost use Rattle.diag_can.specs.Line.{is_fd_among};
 ghost use Rattle.diag_setup.specs.Setup.{did_id, is_fd_of, known_ids};
 ghost use Rattle.diag_store.specs.Dids.{write_answer};
@@ -15,13 +16,12 @@ use crate::clock::{Clock, moment_us};
 use crate::frames::queue_drawn;
 use crate::given::GivenFrame;
 use crate::node::Node;
-use diag_bus::{Drawn, RequestIds};
+use diag_bus::{Drawn, RequestIds, empty_lists};
 use diag_can::CanId;
 use diag_desk::{JournalVersion, write_header};
 use diag_ecu::Ecu;
 use diag_setup::{Setup, TesterId};
 use diag_store::DidFault;
-use diag_tp::SentFrames;
 use diag_world::Server;
 use std::alloc::{AllocError, Global};
 use std::collections::VecDeque;
@@ -215,21 +215,11 @@ impl Device {
     pub fn set_status(&mut self, code: u32, status: u8) -> bool
         ensures known { result ≡ is_some (status_of self.old.server.ecu.dtcs code) }
         ensures set { TookCall self.old self.new (SetStatus code status) }
+        ensures unknown { OnFalse result (self.new ≡ self.old) }
         ensures same { SameUnit self.old self.new }
     {
         self.node.server.set_status(code, status)
     }
-}
-
-/// So many empty lists.
-fn empty_lists(alloc: Global, count: usize) -> Result<Vec<SentFrames>, AllocError>
-    ensures { IfOk result (λ lists. length lists.items ≡ count) }
-{
-    let mut lists = Vec::new(alloc);
-    for made in 0..count {
-        lists.push(SentFrames::new(alloc))?;
-    }
-    Ok(lists)
 }
 
 /// The text of a journal without entries, where one is wanted.

@@ -541,6 +541,7 @@ pub extern "C" fn uds_unit_set_value(alloc: Global, unit: &mut Handle, id: u16, 
 fn set_code(device: &mut Device, code: u32, status: u8) -> u32
     ensures status { result ≡ code_status (status_of device.old.server.ecu.dtcs code) }
     ensures set { Sets device.old device.new (SetStatus code status) }
+    ensures unknown { 1 ≤ result → device.new ≡ device.old }
 {
     if device.set_status(code, status) {
         return DONE;
@@ -555,6 +556,7 @@ pub extern "C" fn uds_unit_set_code(alloc: Global, unit: &mut Handle, code: u32,
     ensures status { IfSome unit.old.unit (λ device.
         result ≡ code_status (status_of device.server.ecu.dtcs code)) }
     ensures set { Both unit.old.unit unit.new.unit (λ old new. Sets old new (SetStatus code status)) }
+    ensures unknown { Both unit.old.unit unit.new.unit (λ old new. 1 ≤ result → new ≡ old) }
 {
     let Some(mut device) = mem::replace(unit, Handle::closed(alloc)).into_box() else {
         return CLOSED;

@@ -13,7 +13,7 @@ ghost use Rattle.diag_bus.specs.RequestIds.{AreRequestsOf, IsOwner, functional_t
 
 use crate::entries::Entries;
 use crate::given::GivenFrame;
-use diag_bus::{Owner, RequestIds};
+use diag_bus::{Owner, RequestIds, clear_all};
 use diag_can::{CanId, FrameBytes, LentBytes, LentEvent, TickCount};
 use diag_setup::{Setup, TesterId};
 use diag_tp::SentFrames;
@@ -223,16 +223,5 @@ impl Node {
             }
             None => Ok(()),
         }
-    }
-}
-
-/// Empties each tester's list.
-fn clear_all(drawn: &mut Vec<SentFrames>)
-    ensures empty { (i : ℕ) (frames : List ASent)
-        → slice_get (map (λ f. f.items) drawn.new.items) i ≡ Some frames → frames ≡ [] }
-    ensures lists { length drawn.new.items ≡ length drawn.old.items }
-{
-    for index in 0..drawn.len() {
-        drawn[index].clear();
     }
 }

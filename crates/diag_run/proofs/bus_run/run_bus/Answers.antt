@@ -91,3 +91,23 @@ returns-in-Err-clause-write g c = λ is.
 pub returns-in-Err-clause-unfailed : goal.returns-in-Err-clause-unfailed
 returns-in-Err-clause-unfailed g c = λ other. c.run_capture.ensures.unfailed
     (λ is. let same : c.in-Err.fault ≡ capture.Write = err_same c.in-Err.fault capture.Write (sym c.in-Err.is ∙ is) in other (rw (c.run_fault.ensures, same) refl))
+
+-- a read of the config failed just where that is told
+pub returns-in_err-setup-clause-config_sound : goal.returns-in_err-setup-clause-config_sound
+returns-in_err-setup-clause-config_sound g c =
+    let p = err_from_is_err_and c.from_residual.result c.from_residual.ensures.1 in
+    λ other. c.read_config.ensures.sound (λ n is.
+    let told = same_fault c.from_residual.result c.read_config.result _ _ (run_fault.Read n) p.1 c.in_err-setup.was p.2 is in
+    other (rw (sym (c.read_config.ensures.device n is)) told))
+
+pub returns-in_err-bus-clause-config_sound : goal.returns-in_err-bus-clause-config_sound
+returns-in_err-bus-clause-config_sound g c = λ other. c.read_config.ensures.sound
+    (λ n. ok_is_no_fault c.read_config.result _ (run_fault.Read n) c.in_ok-setup.was)
+
+pub returns-in-Ok-clause-config_sound : goal.returns-in-Ok-clause-config_sound
+returns-in-Ok-clause-config_sound g c = λ other. c.read_config.ensures.sound
+    (λ n. ok_is_no_fault c.read_config.result _ (run_fault.Read n) c.in_ok-setup.was)
+
+pub returns-in-Err-clause-config_sound : goal.returns-in-Err-clause-config_sound
+returns-in-Err-clause-config_sound g c = λ other. c.read_config.ensures.sound
+    (λ n. ok_is_no_fault c.read_config.result _ (run_fault.Read n) c.in_ok-setup.was)

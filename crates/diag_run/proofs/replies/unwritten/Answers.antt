@@ -1,6 +1,6 @@
 use Rattle.std.proofs.Common.{◌≡◌, ◌+◌, ◌∷◌, ◌++◌, [], length, ap, subst, sym, ◌∙◌, arith, inl, inr, length-append}
 use Rattle.diag_world.proofs.Worlds.{push_cases}
-use Rattle.diag_text.specs.Text.{writer_of}
+use Rattle.diag_bus.specs.Writing.{writer_of}
 use Rattle.diag_run.specs.Playing.{Replies}
 use Rattle.diag_run.proofs.replies.unwritten.Goals as goal
 

@@ -1,6 +1,7 @@
 use Rattle.std.proofs.Common.{◌≡◌, ◌+◌, ◌-◌, map, take, drop, refl, rules, ◌∙◌}
 use Rattle.std.specs.List.{concat}
-use Rattle.diag_text.specs.Text.{lines_of, lines_from, writer_of}
+use Rattle.diag_bus.specs.Writing.{writer_of}
+use Rattle.diag_text.specs.Text.{lines_of, lines_from}
 use Rattle.diag_text.proofs.Lines.{first_lines, no_lines}
 use Rattle.diag_text.proofs.Parts.{whole_lines}
 use Rattle.diag_text.proofs.text.+fn-lines_beside-join+arg3+lines_beside.Goals as goal

@@ -1,6 +1,7 @@
 use Rattle.std.proofs.Common.{◌≡◌, ◌≤◌, ◌+◌, ◌-◌, ◌/◌, ◌++◌, map, take, drop, ap₂, ◌∙◌, rules, arith}
 use Rattle.std.specs.List.{concat}
-use Rattle.diag_text.specs.Text.{lines_of, writer_of}
+use Rattle.diag_bus.specs.Writing.{writer_of}
+use Rattle.diag_text.specs.Text.{lines_of}
 use Rattle.diag_text.proofs.Parts.{halves_lines}
 use Rattle.diag_text.proofs.text.+fn-lines_halved-join+arg2+fn-lines_halved-join+arg3+lines_halved.Goals as goal
 

@@ -1,7 +1,8 @@
 use Rattle.std.proofs.Common.{◌≡◌, ◌+◌, [], ◌++◌, map, drop, subst, arith, ap, refl, ◌∙◌}
 use Rattle.std.proofs.lemmas.List.{drop_all, length-map}
 use Rattle.std.specs.List.{concat}
-use Rattle.diag_text.specs.Text.{lines_of, writer_of}
+use Rattle.diag_bus.specs.Writing.{writer_of}
+use Rattle.diag_text.specs.Text.{lines_of}
 use Rattle.diag_text.proofs.Lines.{lines_here, lines_done}
 use Rattle.diag_text.proofs.Parts.{whole_lines}
 use Rattle.diag_text.proofs.Items.{seen_at}

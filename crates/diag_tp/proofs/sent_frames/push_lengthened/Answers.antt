@@ -20,5 +20,5 @@ returns-clause-items c =
     let bytes : long ≡ c.args.bytes = c.append_short.ensures
     ∙ ap₂ (λ (none short : List ℕ). none ++ short) (ap (λ (s : Sent). s.frame.bytes) same) c.as_slice.ensures.bytes in
     ap₂ (λ (items : List Sent) k. set items k filled) pushed index ∙ (set-append_seam old empty [] filled
-        ∙ (ap (λ (s : Sent). old ++ record { at = s.at; frame = record { id = s.frame.id; bytes = long } } ∷ []) same
-            ∙ ap (λ (b : List ℕ). old ++ record { at = c.args.at; frame = record { id = c.args.id; bytes = b } } ∷ []) bytes))
+    ∙ (ap (λ (s : Sent). old ++ record { at = s.at; frame = record { id = s.frame.id; bytes = long } } ∷ []) same
+    ∙ ap (λ (b : List ℕ). old ++ record { at = c.args.at; frame = record { id = c.args.id; bytes = b } } ∷ []) bytes))
