@@ -9,7 +9,9 @@ ghost use Rattle.diag_stored.specs.declared.TheConstants.{
   LOG_B as TheLogB,
 };
 ghost use Rattle.diag_run.specs.Files.{AreKnown};
-ghost use Rattle.diag_run.specs.Run.{GivesRun, read_of};
+ghost use Rattle.diag_live.specs.Pace.{KeepsPace};
+ghost use Rattle.diag_live.specs.Stops.{Lived, Stopped};
+ghost use Rattle.diag_run.specs.Run.{DoneOf, GivesRun, TellsOf, read_of};
 
 mod answer;
 mod command;
@@ -534,7 +536,14 @@ fn serve<B: Bench, W: Write, F: Write>(
     bench: &mut B,
     out: &mut W,
     record: &mut F,
-) -> Outcome {
+) -> Outcome
+    ensures status { DoneOf (λ status. status ≡ 0) result }
+    ensures done { DoneOf (λ _. Lived (KeepsPace B.story setup bench.old bench.new) setup
+        (B.remaining bench.old) (B.remaining bench.new)
+        (W.contents out.old) (W.contents out.new) (F.contents record.old) (F.contents record.new)) result }
+    ensures fault { TellsOf (Stopped setup (B.remaining bench.old) (B.remaining bench.new)
+        (W.contents out.old) (W.contents out.new) (F.contents record.old) (F.contents record.new)) result }
+{
     match live(alloc, setup, bench, out, record) {
         Ok(()) => Outcome::Done { status: 0 },
         Err(fault) => Outcome::of(alloc, &fault),
