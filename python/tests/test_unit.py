@@ -13,6 +13,7 @@ from decimal import Decimal
 from fractions import Fraction
 from math import inf, nextafter
 from pathlib import Path
+from time import process_time
 
 from uds_unit import ClosedFault, Frame, FrameFault, SetupFault, Unit, UnitFault, toml
 
@@ -243,6 +244,16 @@ class UnitTests(unittest.TestCase):
             codes[0xC10000] = 256
         with self.assertRaises(TypeError):
             del codes[0xC10000]
+
+    def test_many_codes(self) -> None:
+        numbers = [*range(1, 8190, 2), 0xFFFFFE]
+        rows = "".join(f"[[code]]\ncode = {it}\nstatus = {it % 256}\n" for it in numbers)
+        with Unit(WIDE + b"\n" + rows.encode()) as unit:
+            begun = process_time()
+            self.assertEqual(dict(unit.codes), {it: it % 256 for it in numbers})
+            self.assertLess(process_time() - begun, 3)
+            for wrong in (0, 2, 8190, 8191, 0xFFFFFD, 0xFFFFFF, 1 << 24, -1):
+                self.assertNotIn(wrong, unit.codes)
 
     def test_journal(self) -> None:
         self.assertEqual(self.unit.journal(), "diag-journal 2\n")

@@ -103,7 +103,8 @@ class UnitBus:
         """The DTCs with their status, as they are now; `set_code` sets one."""
         with self._lock:
             self._look()
-            return MappingProxyType(dict(self._unit.codes))
+            # (row by row: while it is looked at the unit sends nothing)
+            return MappingProxyType(dict(self._unit.codes._rows()))
 
     @property
     def values(self) -> Mapping[int, bytes]:

@@ -1,6 +1,7 @@
 """The unit: frames and moments go in, frames come out."""
 import os
 import threading
+from bisect import bisect_left
 from collections.abc import Iterator, MutableMapping
 from ctypes import byref, c_size_t, c_uint16, c_uint64, create_string_buffer
 from math import isfinite
@@ -20,10 +21,13 @@ LOW_11, LOW_29 = (1 << 11) - 1, (1 << 29) - 1
 FUNCTIONAL, FUNCTIONAL_29 = 0x7DF, 0x18DB33F1
 MILLI, MICRO = 1_000, 1_000_000
 NEVER = 2**64 - 1
+# what stands behind the last DTC: a code above all, and a status
+BEHIND = (1 << 24, 0)
 # the longest step at once, in microseconds: what it takes, time and with a journal memory, is in proportion to it
 CENTURY = 36_525 * 86_400 * MICRO
-# the most bytes of a setup, as the program has it
+# the most bytes of a setup, as the program has it, and the most DTCs
 MOST_SETUP = 1_048_576
+MOST_CODES = 4096
 
 
 class Frame(NamedTuple):
@@ -332,10 +336,12 @@ class Codes(MutableMapping[int, int]):
         self._unit = unit
 
     def __getitem__(self, code: int) -> int:
-        for number, status in self._rows():
-            if number == code:
-                return status
-        raise KeyError(code)
+        number = _in_range(code, 0xFFFFFF)
+        # (by halves: a look at each row for each code would take seconds for them all)
+        found, status = self._row(bisect_left(range(MOST_CODES), number, key=lambda place: self._row(place)[0]))
+        if found != number:
+            raise KeyError(code)
+        return status
 
     def __setitem__(self, code: int, status: int) -> None:
         unit, code, status = self._unit, _in_range(code, 0xFFFFFF), index(status)
@@ -356,12 +362,19 @@ class Codes(MutableMapping[int, int]):
         return sum(1 for _ in self)
 
     def _rows(self) -> Iterator[tuple[int, int]]:
-        unit, row, place = self._unit, Code(), 0
-        while (status := unit._call("code", place, byref(row))) == DONE:
-            yield row.code, row.status
+        place = 0
+        while (row := self._row(place)) != BEHIND:
+            yield row
             place += 1
-        if status != NONE:
-            unit._raise(status)
+
+    def _row(self, place: int) -> tuple[int, int]:
+        """The code at a place, and its status; behind the last BEHIND."""
+        row = Code()
+        status = self._unit._call("code", place, byref(row))
+        if status == NONE:
+            return BEHIND
+        self._unit._check(status)
+        return row.code, row.status
 
 
 def _in_range(key: int, most: int) -> int:
