@@ -17,6 +17,8 @@ from pathlib import Path
 from types import SimpleNamespace
 from unittest import mock
 
+from uds_unit import ClosedFault
+
 SETUP = Path(__file__).resolve().parent.parent.parent / "demo/setup.toml"
 PACKAGE = str(Path(__file__).resolve().parent.parent)
 
@@ -156,6 +158,28 @@ class BusTests(unittest.TestCase):
             clock.now = 0.011
             unit._turn()
             self.assertEqual([it.data[0] for it in sent], [0x10, 0x21, 0x22])
+
+    def test_a_handler_that_calls_it(self) -> None:
+        """The signal comes in the middle of a look, and the thread has to wait then."""
+        look = type(self.unit._unit).session
+
+        def session_and_signal(unit: object) -> str:
+            with mock.patch.object(type(unit), "session", look):
+                self.ask("023E00")
+                time.sleep(0.1)
+                signal.raise_signal(signal.SIGUSR1)
+            return look.fget(unit)
+
+        for act, fault in ((lambda: self.unit.journal(), None), (self.unit.stop, ClosedFault)):
+            self.addCleanup(signal.signal, signal.SIGUSR1, signal.signal(signal.SIGUSR1, lambda *_: act()))
+            with mock.patch.object(type(self.unit._unit), "session", property(session_and_signal)):
+                if fault is None:
+                    self.assertEqual(self.unit.session, "default")
+                    self.assertEqual(self.hear(), "7E8#027E00CCCCCCCCCC")
+                else:
+                    with self.assertRaises(fault):
+                        self.unit.session
+        self.assertEqual(self.unit.journal().count("1 P 3E00 7E00"), 1)
 
     def test_frames_that_no_wire_carries(self) -> None:
         """They don't end the unit: a virtual bus hands out what it was given."""

@@ -1,8 +1,9 @@
 """A unit on a bus of python-can: virtual, socketcan, PEAK, Vector, Kvaser or any other."""
+import contextlib
 import os
 import threading
 import time
-from collections.abc import Mapping
+from collections.abc import Iterator, Mapping
 from types import MappingProxyType
 from typing import Self
 
@@ -27,6 +28,10 @@ def carried(message: can.Message) -> bytes | None:
     return data.ljust(next(it for it in LENGTHS if it >= len(data)), b"\0") if len(data) <= most else None
 
 
+class _Stopped(Exception):
+    """The thread is to end."""
+
+
 class UnitBus:
     """A unit of a setup on a bus, in a thread of its own from `start` (or `with`) to `stop`; without `stop` it serves on, also
     where nobody has it any more. The bus stays the caller's, but while the thread runs nobody else reads from it: a Notifier, as
@@ -37,6 +42,7 @@ class UnitBus:
     doesn't take, as where the adapter's queue is full, is given to it again for a second; then the bus is at fault.
 
     A fault of the bus ends the thread. From then on what asks or sets something of the unit raises it; `journal` doesn't.
+    A signal's handler may call it, too, in the middle of a call; where it stops it, that call may raise ClosedFault.
 
     `setup` is the path of a setup in TOML, or the bytes of one; SetupFault and OSError as `Unit` raises them.
     """
@@ -44,7 +50,8 @@ class UnitBus:
     def __init__(self, bus: can.BusABC, setup: str | os.PathLike[str] | bytes, *, journal: bool = False) -> None:
         self.bus = bus
         self._unit = Unit(setup, journal=journal)
-        self._lock = threading.Lock()
+        # (a signal's handler may ask or stop it in the middle of a look)
+        self._lock = threading.RLock()
         self._stopped = threading.Event()
         self._thread: threading.Thread | None = None
         self._begun = time.monotonic()
@@ -71,8 +78,7 @@ class UnitBus:
             self._thread.join()
         with self._lock:
             if not self._closed:
-                self._catch_up()
-                self._told += self._unit.journal()
+                self._keep_journal()
                 self._unit.close()
                 self._closed = True
         if self.fault is not None:
@@ -129,8 +135,7 @@ class UnitBus:
         """The whole journal so far; empty where the unit keeps none."""
         with self._lock:
             if not self._closed:
-                self._catch_up()
-                self._told += self._unit.journal()
+                self._keep_journal()
             return self._told
 
     def _look(self) -> None:
@@ -138,6 +143,11 @@ class UnitBus:
         if self.fault is not None:
             raise self.fault
         self._catch_up()
+
+    def _keep_journal(self) -> None:
+        self._catch_up()
+        lines = self._unit.journal()
+        self._told += lines
 
     def _catch_up(self) -> None:
         """Lets the unit's time pass up to now, where it was started and no frame is due by then: those are the thread's. While
@@ -155,17 +165,30 @@ class UnitBus:
         try:
             while not self._stopped.is_set():
                 self._turn()
+        except _Stopped:
+            pass
         except Exception as fault:  # (told by `stop`)
             self.fault = fault
 
+    @contextlib.contextmanager
+    def _held(self) -> Iterator[None]:
+        """The lock, for the thread; _Stopped where it is to end before it has it, for then who stops it may hold it."""
+        while not self._lock.acquire(timeout=PATIENCE):
+            if self._stopped.is_set():
+                raise _Stopped
+        try:
+            yield
+        finally:
+            self._lock.release()
+
     def _turn(self) -> None:
         """Waits for a frame until the next one of the unit's is due, and sends what is due."""
-        with self._lock:
+        with self._held():
             due = self._unit.due
             if due is None:
                 self._late = 0.0
         heard = self.bus.recv(PATIENCE if due is None else min(max(due - self._now(), 0.0), PATIENCE))
-        with self._lock:
+        with self._held():
             while (due := self._unit.due) is not None and due <= self._now():
                 self._send(self._unit.advance(due))
             if heard is not None and self._is_taken(heard) and (data := carried(heard)) is not None:
