@@ -242,6 +242,20 @@ int main(void) { struct uds_unit unit = UDS_UNIT_INIT; return uds_unit_close(&un
   (umask 077 && ran "${without_kit[@]}" make install PREFIX="$room/own" PYTHONDIR="$room/own/python")
   ran find "$room/own/"* '(' ! -perm -go=r -o -type d ! -perm -go=x ')' ! -type l
   shows "others read what is installed, whatever the umask" /dev/null
+  # a folder with a blank and what sed knows, in which an older version was
+  odd="$room/R&D a|b"
+  mkdir -p "$odd/python/uds_unit-0.0.1.dist-info"
+  ran "${without_kit[@]}" make install PREFIX="$odd" PYTHONDIR="$odd/python"
+  holds "make install into an odd folder" 0
+  if command -v pkg-config > /dev/null; then
+    ran sh -c 'eval "set -- $(PKG_CONFIG_PATH="$1/lib/pkgconfig" pkg-config --cflags uds_unit)"; printf "%s\n" "$@"' sh "$odd"
+    holds "pkg-config tells it" 0 "-I$odd/include"
+  fi
+  ran ls "$odd/python"
+  if [ "$(grep -c dist-info "$room/out")" = 1 ]; then good "one version is told"; else bad "one version is told"; fi
+  ran "${without_kit[@]}" PYTHONPATH="$room/slash/lib/its-packages" make install PREFIX="$room/slash/"
+  ran ls "$room/slash/lib/its-packages/uds_unit"
+  holds "with a slash behind it the package is where Python looks" 0 'libuds_unit.so'
   ran "${without_kit[@]}" tools/release.sh --tarball
   holds "the tarball is made" 0 'linux-x86_64.tar.gz'
   first=$(sha256sum "$copy"/out/*.tar.gz 2> /dev/null | cut -d' ' -f1)
