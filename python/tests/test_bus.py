@@ -159,6 +159,34 @@ class BusTests(unittest.TestCase):
             unit._turn()
             self.assertEqual([it.data[0] for it in sent], [0x10, 0x21, 0x22])
 
+    def test_its_clock_under_load(self) -> None:
+        """It keeps pace while one tester's request is under way and another asks all the while: here, too, the test is the thread."""
+        from uds_unit.bus import UnitBus
+
+        heard, sent, clock = [], [], SimpleNamespace(now=0.0)
+        bus = mock.Mock(recv=lambda _: heard.pop() if heard else None, send=sent.append)
+        ours = SimpleNamespace(monotonic=lambda: clock.now)
+
+        def take(now: float, id: int, data: str) -> None:
+            clock.now = now
+            heard.append(self.Message(arbitration_id=id, data=bytes.fromhex(data), is_extended_id=False))
+            unit._turn()
+
+        with mock.patch("uds_unit.bus.time", ours), mock.patch("threading.Thread"), UnitBus(bus, SETUP) as unit:
+            take(0.0009, 0x7E0, "103022F190F190F1")
+            for turn in range(1, 91):
+                take(turn / 100 + 0.0009, 0x7A0, "023E00")
+            self.assertEqual((len(sent), unit._now()), (91, clock.now))
+            # a frame of a long answer is as late as it went, and that only while another may follow
+            take(0.9109, 0x7E0, "21F190F190F190F1")
+            take(0.9209, 0x7A0, "0322F190")
+            take(0.9315, 0x7A0, "300014")
+            self.assertAlmostEqual(unit._now(), 0.93)
+            for clock.now, last in ((0.9505, 0x21), (0.9514, 0x21), (0.9516, 0x22), (1.2, 0x22)):
+                unit._turn()
+                self.assertEqual(sent[-1].data[0], last)
+            self.assertEqual(unit._now(), 1.2)
+
     def test_a_handler_that_calls_it(self) -> None:
         """The signal comes in the middle of a look, and the thread has to wait then."""
         look = type(self.unit._unit).session

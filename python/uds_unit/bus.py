@@ -16,6 +16,9 @@ PATIENCE = 0.05
 # the most seconds that a frame may take to go out (N_As of ISO 15765-2), and between two tries where the adapter takes none
 N_AS = 1.0
 BREATH = 0.0005
+# the first four bits of a FirstFrame and of a ConsecutiveFrame, and more seconds than the longest separation time has
+OF_LONG_ANSWER = (1, 2)
+APART = 0.15
 # how many bytes a frame of CAN FD may have
 LENGTHS = (*range(9), 12, 16, 20, 24, 32, 48, 64)
 
@@ -37,9 +40,10 @@ class UnitBus:
     where nobody has it any more. The bus stays the caller's, but while the thread runs nobody else reads from it: a Notifier, as
     any tester, wants a bus of its own on the channel.
 
-    The unit's time is the machine's monotonic clock. Where a frame goes late, all that is due behind it goes as much later,
-    until nothing is waited for: so two frames are never nearer to each other than their separation time. A frame that the bus
-    doesn't take, as where the adapter's queue is full, is given to it again for a second; then the bus is at fault.
+    The unit's time is the machine's monotonic clock. Where a frame of a long answer goes late, all that is due behind it goes as
+    much later, until nothing is waited for, or none went for APART: so two are never nearer to each other than their separation time.
+    A frame that the bus doesn't take, as where the adapter's queue is full, is given to it again for a second; then the bus is at
+    fault.
 
     A fault of the bus ends the thread. From then on what asks or sets something of the unit raises it; `journal` doesn't.
     A signal's handler may call it, too, in the middle of a call; where it stops it, that call may raise ClosedFault.
@@ -56,6 +60,7 @@ class UnitBus:
         self._thread: threading.Thread | None = None
         self._begun = time.monotonic()
         self._late = 0.0
+        self._last_of_long = self._begun
         self._told = ""
         self._closed = False
         self.fault: BaseException | None = None
@@ -185,7 +190,7 @@ class UnitBus:
         """Waits for a frame until the next one of the unit's is due, and sends what is due."""
         with self._held():
             due = self._unit.due
-            if due is None:
+            if due is None or time.monotonic() - self._last_of_long > APART:
                 self._late = 0.0
         heard = self.bus.recv(PATIENCE if due is None else min(max(due - self._now(), 0.0), PATIENCE))
         with self._held():
@@ -197,7 +202,10 @@ class UnitBus:
     def _send(self, frames: list[Frame]) -> None:
         for frame in frames:
             self._put(self._message(frame))
-            self._late += max(self._now() - frame.time, 0.0)
+            # (none keeps a time from any other frame: with several testers what is late would grow all the while)
+            if frame.data[0] >> 4 in OF_LONG_ANSWER:
+                self._last_of_long = time.monotonic()
+                self._late += max(self._now() - frame.time, 0.0)
 
     def _put(self, message: can.Message) -> None:
         """Gives a message to the bus, again and again where it doesn't take it."""
