@@ -67,7 +67,7 @@ class UnitBus:
         """What ended the thread, if it ended by itself: a fault of the bus."""
 
     def start(self) -> Self:
-        """Starts the thread. From then on the unit answers."""
+        """Starts the thread. From then on the unit answers, first what the bus took before and nobody read."""
         if self._thread is not None:
             raise RuntimeError("it was started before")
         self._begun = time.monotonic()
