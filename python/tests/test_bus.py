@@ -417,6 +417,8 @@ class ProgramTests(unittest.TestCase):
         self.assertEqual(ran.returncode, 1)
         ran = self.run_program("--interface", "virtual", "--channel", "x", "no_such.toml")
         self.assertEqual((ran.returncode, ran.stderr), (1, "uds_unit: no_such.toml: No such file or directory\n"))
+        ran = self.run_program("--interface", "virtual", "--channel", "x", "")
+        self.assertEqual((ran.returncode, ran.stderr), (1, "uds_unit: '': No such file or directory\n"))
         # (2 would tell of the setup)
         with mock.patch("uds_unit.__main__._serve", side_effect=MemoryFault("memory")), mock.patch("signal.signal"):
             with contextlib.redirect_stderr(io.StringIO()) as text:

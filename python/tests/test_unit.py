@@ -14,8 +14,9 @@ from fractions import Fraction
 from math import inf, nextafter
 from pathlib import Path
 from time import process_time
+from unittest import mock
 
-from uds_unit import ClosedFault, Frame, FrameFault, SetupFault, Unit, UnitFault, toml
+from uds_unit import ClosedFault, Frame, FrameFault, SetupFault, Unit, UnitFault, library, toml
 
 SETUP = Path(__file__).resolve().parent.parent.parent / "demo/setup.toml"
 EXTENDED, PRESENT = bytes.fromhex("021003"), bytes.fromhex("023E00")
@@ -332,6 +333,14 @@ class UnitTests(unittest.TestCase):
         for call in calls:
             with self.assertRaisesRegex(ClosedFault, "the unit is closed"):
                 call(self.unit)
+
+
+class LibraryTests(unittest.TestCase):
+    def test_an_empty_name_of_the_library(self) -> None:
+        with mock.patch.dict(os.environ, UDS_UNIT_LIBRARY=""):
+            self.assertNotIn("", library.places())
+        with mock.patch.dict(os.environ, UDS_UNIT_LIBRARY="/it"):
+            self.assertEqual(list(library.places()), ["/it"])
 
 
 class SetupTests(unittest.TestCase):

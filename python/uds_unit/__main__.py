@@ -29,7 +29,7 @@ def _fault_words(fault: Exception) -> str:
     """A fault in words, with the file's name where it has one."""
     words = getattr(fault, "strerror", None) or str(fault)
     name = getattr(fault, "filename", None)
-    return f"{name}: {words}" if name else words
+    return words if name is None else f"{name or repr(name)}: {words}"
 
 
 def _arguments() -> argparse.ArgumentParser:

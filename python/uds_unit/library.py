@@ -66,8 +66,8 @@ _CALLS = {
 def places() -> Iterator[str]:
     """Where the library may be, the first that is there counts: where UDS_UNIT_LIBRARY says, beside this file, where the
     repository builds it, in the repository's release/, and where the system looks."""
-    if "UDS_UNIT_LIBRARY" in os.environ:
-        yield os.environ["UDS_UNIT_LIBRARY"]
+    if told := os.environ.get("UDS_UNIT_LIBRARY"):
+        yield told
         return
     here = Path(__file__).resolve().parent
     top = here.parent.parent
