@@ -186,6 +186,11 @@ class BusTests(unittest.TestCase):
                 unit._turn()
                 self.assertEqual(sent[-1].data[0], last)
             self.assertEqual(unit._now(), 1.2)
+            # it makes up for seconds by and by
+            unit._late = 3.0
+            for clock.now, is_now in ((1.7, -0.8), (2.7, 1.2), (4.2, 4.2), (5.0, 5.0)):
+                unit._turn()
+                self.assertAlmostEqual(unit._now(), is_now)
 
     def test_a_handler_that_calls_it(self) -> None:
         """The signal comes in the middle of a look, and the thread has to wait then."""

@@ -41,9 +41,9 @@ class UnitBus:
     any tester, wants a bus of its own on the channel.
 
     The unit's time is the machine's monotonic clock. Where a frame of a long answer goes late, all that is due behind it goes as
-    much later, until nothing is waited for, or none went for APART: so two are never nearer to each other than their separation time.
-    A frame that the bus doesn't take, as where the adapter's queue is full, is given to it again for a second; then the bus is at
-    fault.
+    much later, until nothing is waited for, or none went for APART; then its time goes at most twice as fast until it is right.
+    So two such frames are never nearer to each other than their separation time. A frame that the bus doesn't take, as where the
+    adapter's queue is full, is given to it again for a second; then the bus is at fault.
 
     A fault of the bus ends the thread. From then on what asks or sets something of the unit raises it; `journal` doesn't.
     A signal's handler may call it, too, in the middle of a call; where it stops it, that call may raise ClosedFault.
@@ -60,7 +60,7 @@ class UnitBus:
         self._thread: threading.Thread | None = None
         self._begun = time.monotonic()
         self._late = 0.0
-        self._last_of_long = self._begun
+        self._last_of_long = self._turned = self._begun
         self._told = ""
         self._closed = False
         self.fault: BaseException | None = None
@@ -189,9 +189,11 @@ class UnitBus:
     def _turn(self) -> None:
         """Waits for a frame until the next one of the unit's is due, and sends what is due."""
         with self._held():
-            due = self._unit.due
-            if due is None or time.monotonic() - self._last_of_long > APART:
-                self._late = 0.0
+            due, now = self._unit.due, time.monotonic()
+            if due is None or now - self._last_of_long > APART:
+                # (not at once: a session would end in it)
+                self._late = max(self._late - (now - self._turned), 0.0)
+            self._turned = now
         heard = self.bus.recv(PATIENCE if due is None else min(max(due - self._now(), 0.0), PATIENCE))
         with self._held():
             while (due := self._unit.due) is not None and due <= self._now():
