@@ -248,6 +248,7 @@ int main(void) { struct uds_unit unit = UDS_UNIT_INIT; return uds_unit_close(&un
   ran "${without_kit[@]}" make install PREFIX="$odd" PYTHONDIR="$odd/python"
   holds "make install into an odd folder" 0
   if command -v pkg-config > /dev/null; then
+    # shellcheck disable=SC2016 # the inner shell reads these words
     ran sh -c 'eval "set -- $(PKG_CONFIG_PATH="$1/lib/pkgconfig" pkg-config --cflags uds_unit)"; printf "%s\n" "$@"' sh "$odd"
     holds "pkg-config tells it" 0 "-I$odd/include"
   fi
