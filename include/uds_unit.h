@@ -4,7 +4,7 @@
  *
  * No call starts a thread, waits or reads a clock: time is what the caller says. Each call returns, and answers a status.
  * The more time a call lets pass the longer it takes: for a year and a tester some milliseconds, with a journal some tens.
- * uds_unit_open wants up to 2 MiB of stack, for a setup without deep tables 128 KiB; every other call wants 16 KiB.
+ * uds_unit_open wants up to 2 MiB of stack, for a setup without deep tables or arrays 128 KiB; every other call wants 16 KiB.
  *
  * Caller's duty, which nothing checks:
  * - no pointer is null, also where a length or a room is 0, and each points to as many bytes as its length says;
