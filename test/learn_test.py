@@ -1159,6 +1159,18 @@ class OfRecordings(unittest.TestCase):
         found = learned_of(asked(("280301", "7F2878", "6803"), ("280001", "7F2878", "6800")))
         self.assertEqual((0, [{"request": "28..01", "reply": ["68$1"], "after_ms": 64}]), (found.status, found.tree()["answer"]))
 
+    def test_a_row_with_a_few_slow_answers(self) -> None:
+        """It delays none, so a download is as quick as it was; unless a session lived on by one."""
+        blocks = [(f"36{at:02X}" + f"{at * 7:02X}" * (9 + at % 2), f"76{at:02X}") for at in range(1, 8)]
+        prompt, lines = [{"request": "36..*", "reply": ["76$1"]}], asked(*blocks[:4], (blocks[4][0], "7F3678", blocks[4][1]), *blocks[5:])
+        found = learned_of(lines)
+        self.assertEqual((0, "", prompt), (found.status, found.told, found.tree()["answer"]))
+        self.assertEqual(0, judged("verify", found, lines)[0])
+        steps = [(at * 20 + late, it) for at in range(1, 9) for late, it in ((0, f"7E0#0336{at:02X}{at * 7:02X}"), (3, f"7E8#0276{at:02X}"))]
+        slow = [(1000, "7E0#043609AABB"), (1050, "7E8#037F3678"), (5500, "7E8#027609"), (9500, "7E0#043101AABB"), (9503, "7E8#047101AABB"), (9999, "123#00")]
+        found = learned_of(frames((0, "7E0#021003"), (5, "7E8#065003003201F4"), *steps, *slow))
+        self.assertEqual((0, "", [{**prompt[0], "after_ms": 4500}]), (found.status, found.told, found.tree()["answer"]))
+
     def test_an_obd_unit(self) -> None:
         asks = [(0, "7DF#020100"), (9, "7E8#064100BE3EB811"), (20, "7DF#02010C"), (29, "7E8#04410C1AF8"), (40, "7DF#02010C"), (49, "7E8#04410C1B10")]
         found = learned_of(frames(*asks))

@@ -36,7 +36,7 @@ from learn_bus import end_of, functional_of, look, pair_of, pairs_of, sending_of
 from learn_judge import AGREES, BAD_SETUP, DIFFERS, NOTHING, Exchange, Judge, Program, Refused, Verdict, shortened
 from learn_model import is_left_pending, learn_model
 from learn_rows import MOST_BYTES, Plan
-from learn_setup import Unit, is_apart, moment, setup_text, why_apart
+from learn_setup import Row, Unit, is_apart, moment, setup_text, why_apart
 from uds_streams import CannotWrite, fault_words, input_bytes, ready, write_out
 
 TOP = os.path.dirname(os.path.dirname(os.path.abspath(__file__)))
@@ -200,8 +200,20 @@ def learned(unit: Unit, judge: Judge, source: str, progress: Progress) -> tuple[
         if verdict.status != DIFFERS or idle > MOST_IDLE or not plan.widen(verdict.exchanges):
             break
         unit.rows = plan.rows(unit, verdict.exchanges)
-    *found, unit.rows = best
+    *found, unit.rows = prompter(unit, judge, source, best)
     return tuple(found)
+
+
+def prompter(unit: Unit, judge: Judge, source: str, best: tuple[str, Verdict, int, list[Row]]) -> tuple[str, Verdict, int, list[Row]]:
+    """The best setup, without the delay of rows whose answers were prompt but for a few, where no more differs by that: a session
+    may live on while an answer is late."""
+    _, verdict, left_out, rows = best
+    rows = [replace(it, after=0) if it.is_prompt else it for it in rows]
+    if rows == best[3]:
+        return best
+    text = setup_text(replace(unit, rows=rows), source)
+    found = judge(text)
+    return (text, found, left_out, rows) if count_of(found) <= count_of(verdict) else best
 
 
 def cut_off(exchanges: list[Exchange], unit: Unit) -> list[Exchange]:

@@ -165,7 +165,13 @@ def entered(cases: list[Case]) -> int:
 def row_of(unit: Unit, cases: list[Case], templates: list[str], held: Held) -> Row:
     """The row for these exchanges, in a session and behind a level."""
     pattern = shortened(pattern_of([it.request for it in cases]), templates)
-    return Row(pattern, templates, held.session, held.level, entered(cases), after_of(unit, cases), seen_of(cases))
+    return Row(pattern, templates, held.session, held.level, entered(cases), after_of(unit, cases), seen_of(cases), is_prompt(cases))
+
+
+def is_prompt(cases: list[Case]) -> bool:
+    """Whether these are several requests, and most of them were answered without response pending."""
+    late = sum(1 for case in cases for it in case.all if it.pendings)
+    return len({it.request for it in cases}) > 1 and 2 * late < seen_of(cases).count
 
 
 def seen_of(cases: list[Case]) -> Seen:

@@ -100,6 +100,8 @@ class Row:
     enter: int = 0
     after: int = 0
     seen: Seen = field(default_factory=Seen)
+    # whether it is for several requests, and most of them were answered without response pending
+    is_prompt: bool = False
 
     def refuses(self) -> bool:
         """Whether an answer of it is a negative response."""
