@@ -88,6 +88,7 @@ TEXTS = [
     ("without it behind what is ignored", IGNORED + QUIET + "A 2 exchanges, 0 differ\n", 3, {"A": [2, 0, 0, 1], "compare": [1, 0, 1, 0]}),
     ("response pending alone", PENDING + "A 1 exchanges, 0 differ\n", 0, {"A": [1, 0, 0, 0]}),
     ("the differences alone, of which there are none", "A 1 exchanges, 0 differ\n", 0, {"A": [0, 0, 0, 0]}),
+    ("a number that is too long", AGREES.replace(" 12 ", f" {'9' * 400} ") + f"A {'1' * 5000} exchanges, 0 differ\n", 3, {"compare": [1, 0, 1, 0]}),
     ("another text", AGREES + 'uds_play: <"&> \x01\u20ac\nA 1 exchanges, 0 differ\n', 3, {"A": [1, 0, 0, 0], "compare": [1, 0, 1, 0]}),
 ]
 

@@ -5,11 +5,13 @@ from collections import Counter
 from dataclasses import dataclass, field
 from typing import Iterable, Optional
 
+# (no number of the program is longer)
 EXCHANGE = re.compile(
-    r"(\d+) (\d{10,})\.(\d{3})\d{3} (\w+) ([PFU]) ((?:[0-9A-F]{2})+|-) "
-    r"((?:[0-9A-F]{2})+|-) ((?:[0-9A-F]{2}|\?\?)+|[-=~]) (\d+|-) (\d+)"
+    r"(\d{1,19}) (\d{10,19})\.(\d{3})\d{3} (\w+) ([PFU]) ((?:[0-9A-F]{2})+|-) "
+    r"((?:[0-9A-F]{2})+|-) ((?:[0-9A-F]{2}|\?\?)+|[-=~]) (\d{1,19}|-) (\d{1,19})",
+    re.ASCII,
 )
-COUNT = re.compile(r"(\w+) (\d+) exchanges, (\d+) differ")
+COUNT = re.compile(r"(\w+) (\d{1,19}) exchanges, (\d{1,19}) differ", re.ASCII)
 NOTHING = "nothing compared"
 AGREES, FAULT, DIFFERS, NOT_COMPARED = 0, 3, 8, 9
 
