@@ -456,6 +456,7 @@ def faults(room):
     for name, files, want in [
         ("a capture", ["(0000000001.000000) can0 7E0#021003\n"], "{0} line 1: no tester of the setup"),
         ("no line of a run", [f"{journal}2 X\n"], "{0} line 3: no entry of a journal"),
+        ("a number that is too long", [f"{journal}1 T {'9' * 5000}\n"], "{0} line 3: no entry of a journal"),
         ("another version", ["diag-journal 2\n1 P 3E00 7E00\n"], "{0} line 2: an entry of the journal's other version"),
         ("a tester too many", ["diag-journal 1\n3 T 1\n"], "{0} line 2: the setup has no such tester"),
         ("a second journal", [journal, journal], "{1} line 1: a second journal"),

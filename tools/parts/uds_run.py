@@ -16,9 +16,9 @@ except ModuleNotFoundError:
     sys.exit("view: the package uds_unit isn't here: this tool takes it from the folder python/ beside tools/, or installed (pip install ./python)")
 
 REPLY_LINE = re.compile(
-    r"\((\d{10,})\.(\d{3})000\) (\S+) ([0-9A-F]{3}|[0-9A-F]{8})(?:#((?:[0-9A-F]{2}){0,8})|##[0-9A-F]((?:[0-9A-F]{2}){0,64}))"
+    r"\((\d{10,19})\.(\d{3})000\) (\S+) ([0-9A-F]{3}|[0-9A-F]{8})(?:#((?:[0-9A-F]{2}){0,8})|##[0-9A-F]((?:[0-9A-F]{2}){0,64}))"
 )
-ENTRY = re.compile(r"(?:(\d+) )?([1-8]) (?:T (\d+)|([PF]) ((?:[0-9A-F]{2})+) (-|(?:[0-9A-F]{2})+))")
+ENTRY = re.compile(r"(?:(\d{1,19}) )?([1-8]) (?:T (\d{1,19})|([PF]) ((?:[0-9A-F]{2})+) (-|(?:[0-9A-F]{2})+))")
 # a message of more bytes has several classic frames
 ONE_FRAME = 7
 END = re.compile(r"session (default|programming|extended|safety|[0-9A-F]{2})|holder \S+|code [0-9A-F]{6} [0-9A-F]{2}|entries \d+")
