@@ -14,6 +14,7 @@ import re
 import subprocess
 import sys
 import tempfile
+import time
 
 from harness import PROGRAM, TOP, Tally, cases, run_without
 import browser
@@ -34,6 +35,8 @@ MOST_DRAWING = 500
 # of a long text the first lines are stored, and a digest
 MOST_LINES = 30
 LONG = 100_000
+# a quiet machine takes one
+MOST_SECONDS = 4
 told = Tally("view")
 
 
@@ -421,6 +424,16 @@ def left_out(_):
         told(found == want, f"what isn't told: {', '.join(want) or 'nothing'}", found)
 
 
+def many_rows(_):
+    """A run by as many rows as a setup has is shown in seconds."""
+    rows = "".join(f'[[answer]]\nrequest = "23{at:04X}"\nreply = ["63{at:04X}"]\n' for at in range(1024))
+    journal = "".join(f"1 P 23{at % 1024:04X} 63{at % 1024:04X}\n" for at in range(5000))
+    begun = time.process_time()
+    found = text_of(f'[[tester]]\nname = "A"\nrequest = 0x7E0\nresponse = 0x7E8\n{rows}', f"diag-journal 1\n{journal}")
+    took = time.process_time() - begun
+    told(len(found.splitlines()) == 5000 and took < MOST_SECONDS, f"many rows in {took:.1f} seconds of processor time")
+
+
 # ---- faults
 
 
@@ -794,7 +807,7 @@ def main():
     if sys.argv[1:] == ["--pictures"]:
         return make_pictures()
     told.needs_program()
-    told.in_rooms(names, texts, lines_a_step, sessions, silence, late, beside, first_bytes, left_out, parted, line_ends, faults, pages)
+    told.in_rooms(names, texts, lines_a_step, sessions, silence, late, beside, first_bytes, left_out, many_rows, parted, line_ends, faults, pages)
     return told.ended()
 
 

@@ -255,6 +255,8 @@ class Session:
     def __init__(self, setup):
         self.setup = setup
         self.next = [0] * len(setup.rows)
+        # by how requests begin the rows, with their numbers, that may fit them
+        self.near = {}
         self.clean()
 
     def clean(self):
@@ -272,8 +274,15 @@ class Session:
         """The number of the row of answers that decides about a request, from 0; None where none does."""
         is_holder = entry.place == self.holder
         sessions, levels = (0, self.session if is_holder else 1), (0, self.level if is_holder else 0)
-        fit = (at for at, it in enumerate(self.setup.rows) if it.session in sessions and it.level in levels and it.fits(entry.request))
-        return next(fit, None)
+        near = self.rows_near(entry.request[:3])
+        return next((at for at, it in near if it.session in sessions and it.level in levels and it.fits(entry.request)), None)
+
+    def rows_near(self, begin):
+        """The rows, with their numbers, whose patterns may fit a request that begins so."""
+        if begin not in self.near:
+            rows = self.rows_near(begin[:-1]) if begin else enumerate(self.setup.rows)
+            self.near[begin] = [(at, it) for at, it in rows if all(want in (None, byte) for want, byte in zip(it.items, begin))]
+        return self.near[begin]
 
     def wait(self, entry):
         """After how many milliseconds the answer to a request goes, if there is one."""
