@@ -901,6 +901,15 @@ class OfRecordings(unittest.TestCase):
         self.assertEqual((8, 1024), (found.status, len(rows_of(found))))
         self.assertIn("learn: the setup is full: of the rows of answers 6 found no room (docs/FORMATS.md, Setup file, has the limits)\n", found.told)
 
+    def test_the_rows_that_find_room(self) -> None:
+        """Those that begin a session, then those of short requests, where blocks have checksums in their answers."""
+        blocks = [(f"36{at % 256:02X}{at:08X}", f"76{at % 256:02X}{at * 7 % 65521:04X}") for at in range(1030)]
+        asks = [("1002", "5002003201F4"), ("34001122", "742000"), *blocks, ("37", "77"), ("8502", "C502")]
+        found = learned_of(frames(*((at * 20 + late, f"{it}#{len(data) // 2:02X}{data}") for at, ask in enumerate(asks) for late, it, data in ((0, "7E0", ask[0]), (3, "7E8", ask[1])))))
+        rows = rows_of(found)
+        self.assertEqual((8, 1024, [["5002003201F4"], ["742000"], ["77"]]), (found.status, len(rows), [rows.get(it) for it in ("1002", "34001122", "37")]))
+        self.assertEqual(9, len(re.findall(r"learn: line \d+: tester_7E0 was sent 76", found.told)))
+
     def test_a_wrong_key_where_seeds_vary(self) -> None:
         """The wrong key has a row, and nothing else does: behind the right one the level is unlocked."""
         asks = [

@@ -472,12 +472,18 @@ def late_pattern(case: Case) -> str:
 
 
 def limited(rows: list[Row], room: int) -> list[Row]:
-    """As many rows and templates as a setup may have, and as much text as there is room for."""
-    found, templates = [], 0
-    for it in rows[:MOST_ROWS]:
+    """As many rows and templates as a setup may have, and as much text as there is room for: those by which most is explained,
+    in the order in which they stand."""
+    found, templates = set(), 0
+    for at, it in sorted(enumerate(rows), key=lambda numbered: worth(numbered[1])):
         reply = it.reply or []
-        templates += len(reply)
-        room -= ROW_TEXT + sum(TEMPLATE_TEXT + len(text) for text in reply)
-        if templates <= MOST_ALL_TEMPLATES and room >= 0:
-            found.append(it)
-    return found
+        size = ROW_TEXT + sum(TEMPLATE_TEXT + len(text) for text in reply)
+        if len(found) < MOST_ROWS and templates + len(reply) <= MOST_ALL_TEMPLATES and size <= room:
+            found.add(at)
+            templates, room = templates + len(reply), room - size
+    return [it for at, it in enumerate(rows) if at in found]
+
+
+def worth(row: Row) -> tuple:
+    """What changes the session comes first, for others hang on it; then what was seen most often, then what is shortest."""
+    return int(row.request[:2], 16) not in OF_THE_SESSION, -row.seen.count, len(row.request)
