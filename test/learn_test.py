@@ -27,7 +27,7 @@ import learn_bus
 import live
 from learn_judge import Exchange
 from learn_model import Held, one_round, s3_of, values_in
-from learn_rows import Case, pattern_of, shortened, template_of
+from learn_rows import Case, orders_of, pattern_of, shortened, template_of
 from learn_setup import Did, Row, Seen, Unit, between, code_name, row_words
 from uds_link import LENGTHS, cut
 from uds_link import Setup as LinkSetup
@@ -655,6 +655,14 @@ class OfTheParts(unittest.TestCase):
         self.assertEqual("6803", template(("280301", "6803")))
         self.assertIsNone(template(("280301", "6803"), ("280301", "7F2822")))
         self.assertEqual("", template(("280301", ""), ("280001", "")))
+
+    def test_orders(self) -> None:
+        """Splits that part nothing aren't tried."""
+        blocks = [Case(Held(3), f"76{at:02X}", [exchange(0, f"36{at:02X}AA", f"76{at:02X}")]) for at in range(3)]
+        refused = Case(Held(3), "7F3673", [exchange(0, "3603BB", "7F3673")])
+        self.assertEqual([("sub-function", "request")], list(orders_of(blocks)))
+        self.assertEqual([("refusal", "sub-function", "request")], list(orders_of([*blocks, refused])))
+        self.assertEqual([()], list(orders_of(blocks[:1])))
 
 
 class Terminal(io.StringIO):

@@ -253,7 +253,7 @@ def narrowed(held: Held, name: str, case: Case) -> Held:
 def fewest(unit: Unit, cases: list[Case]) -> list[Row]:
     """The rows for these exchanges, in their order, by which there are the fewest with those that are wanted besides."""
     best, least, tried = [], 0, []
-    for order in ORDERS:
+    for order in orders_of(cases):
         rows = explained(unit, cases, ANY, order)
         for key in () if rows in tried else (rank, often):
             own, left = in_use(sorted(rows, key=key), cases)
@@ -265,6 +265,12 @@ def fewest(unit: Unit, cases: list[Case]) -> list[Row]:
             break
         tried.append(rows)
     return best
+
+
+def orders_of(cases: list[Case]) -> Iterable[tuple[str, ...]]:
+    """The orders of the splits, without those that part none of these exchanges."""
+    parting = {name for name, key in SPLITS.items() if len({key(it) for it in cases}) > 1}
+    return dict.fromkeys(tuple(name for name in order if name in parting) for order in ORDERS)
 
 
 def in_use(rows: list[Row], cases: list[Case]) -> tuple[list[Row], int]:
