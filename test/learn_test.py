@@ -828,6 +828,21 @@ class OfRecordings(unittest.TestCase):
             self.assertIn(f"functional = 0x7FF  # a free one: 7DF is of {other} here, and a tester by {one} can't have it, too\n", found.text)
             self.assertEqual((64, 0xCC, [{"id": 0xF190, "value": value}]), (found.tree()["tx_dl"], found.tree()["pad_byte"], found.tree()["did"]))
 
+    def test_a_tester_to_whom_no_functional_request_is_answered(self) -> None:
+        """It has a functional identifier of its own, and rows have no answer for it, unless it begins a session."""
+        read = [("7E0", "0322F195", "7E8", "0562F1950203"), ("7A0", "0322F195", "7A8", "0562F1950203"), ("7DF", "0322F195", "7E8", "0562F1950203")]
+        session, late = [("7A0", "021003", "7A8", "065003003201F4")], [("7DF", "0322F195", "7A8", "0562F1950203")]
+        own = "functional = 0x7FF  # a free one: functional requests were answered to others alone\n"
+        for more, is_own in (([], True), (session, False), (late, False)):
+            steps = [*read, *read, *more, ("7DF", "023E80", "7E8", "")]
+            lines = frames(*((at * 100 + back, f"{it}#{data}") for at, step in enumerate(steps) for back, it, data in ((0, *step[:2]), (3, *step[2:])) if data))
+            found = learned_of(lines, "--pair", "7E0:7E8", "--pair", "7A0:7A8")
+            self.assertEqual((0, "", is_own, is_own), (found.status, found.told, own in found.text, not rows_of(found)), more)
+            self.assertEqual(0, judged("compare", found, lines)[0], more)
+        asks = ["7E0#0322F195", "7E8#0562F1950203", "7A0#023E00", "7A8#027E00", "7DF#0322F195", "7E8#0562F1950203", "7C0##1023E00", "7C8##1027E00"]
+        found = learned_of(frames(*((at * 100, it) for at, it in enumerate(asks))), *(it for pair in ("7E0:7E8", "7A0:7A8", "7C0:7C8") for it in ("--pair", pair)))
+        self.assertEqual((0, [None, None, 0x7FF]), (found.status, [it.get("functional") for it in found.tree()["tester"]]), found.told)
+
     def test_both_are_asked_by_one_functional_identifier(self) -> None:
         """The answers of the one that can't have it are told as unasked, with the reason."""
         asks = ["7E0##10322F190", "7E8##1037F2231", "7E1#023E00", "7E9#027E00", "7DF##1023E00", "7E8##1027E00", "7E9#027E00"]

@@ -34,7 +34,7 @@ sys.path.append(os.path.join(os.path.dirname(os.path.abspath(__file__)), "parts"
 from learn_bus import ANSWER_MS, FUNCTIONAL, FUNCTIONAL_29, MOST_TESTERS, Broken, Pair, Sending
 from learn_bus import end_of, functional_of, look, pair_of, pairs_of, sending_of
 from learn_judge import AGREES, BAD_SETUP, DIFFERS, NOTHING, Exchange, Judge, Program, Refused, Verdict, shortened
-from learn_model import is_left_pending, learn_model
+from learn_model import is_left_pending, learn_model, session_of
 from learn_rows import MOST_BYTES, Plan
 from learn_setup import Row, Unit, is_apart, moment, setup_text, why_apart
 from uds_streams import CannotWrite, fault_words, input_bytes, ready, write_out
@@ -183,6 +183,9 @@ def count_of(verdict: Verdict) -> int:
 def learned(unit: Unit, judge: Judge, source: str, progress: Progress) -> tuple[str, Verdict, int]:
     """The setup by which the fewest exchanges differ, what the judge says of it, and how many rows found no room in it."""
     exchanges = judge(setup_text(unit, source)).exchanges
+    unit.unheard = unheard(exchanges)
+    if unit.unheard:
+        exchanges = judge(setup_text(unit, source)).exchanges
     unit.cut_off = cut_off(exchanges, unit)
     progress.at(0.3, "the model")
     learn_model(unit, exchanges)
@@ -214,6 +217,15 @@ def prompter(unit: Unit, judge: Judge, source: str, best: tuple[str, Verdict, in
     text = setup_text(replace(unit, rows=rows), source)
     found = judge(text)
     return (text, found, left_out, rows) if count_of(found) <= count_of(verdict) else best
+
+
+def unheard(exchanges: list[Exchange]) -> set[int]:
+    """The places of testers to which no functional request was answered, though the same one was to another tester. One that begins
+    a session isn't among them, for functional requests may keep that up."""
+    heard = {(it.line, it.place) for it in exchanges if it.kind == "F" and (it.sent or it.pendings)}
+    lines, others = {line for line, _ in heard}, {place for _, place in heard}
+    others |= {it.place for it in exchanges if it.request and session_of(it) > 1}
+    return {it.place for it in exchanges if it.kind == "F" and it.line in lines} - others
 
 
 def cut_off(exchanges: list[Exchange], unit: Unit) -> list[Exchange]:

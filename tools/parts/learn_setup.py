@@ -132,6 +132,8 @@ class Unit:
     functional_29: Optional[int] = None
     # whether testers of CAN FD have the functional identifier of 11 bits, and that of 29, where classic ones can't have it, too
     is_all_fd: tuple[bool, bool] = (False, False)
+    # the places of testers to which no functional request was answered that was answered to another one
+    unheard: set[int] = field(default_factory=set)
     # when the recording ends, and the exchanges that it cuts off
     end: Optional[int] = None
     cut_off: list[Exchange] = field(default_factory=list)
@@ -242,10 +244,14 @@ def free_identifier(unit: Unit, is_extended: bool = False) -> int:
     return next(it for it in range(0x1FFFFFFF if is_extended else 0x7FF, 0, -1) if it not in own | {usual, seen})
 
 
+def is_mixed(unit: Unit, pair: Pair) -> bool:
+    """Whether there are testers of CAN FD and classic ones among those with identifiers as wide as a tester's."""
+    return len({it.is_fd for it in unit.pairs if it.is_extended == pair.is_extended}) > 1
+
+
 def is_apart(unit: Unit, pair: Pair) -> bool:
     """Whether a tester has a functional identifier that nobody uses: one of CAN FD and a classic one can't have the same."""
-    is_mixed = len({it.is_fd for it in unit.pairs if it.is_extended == pair.is_extended}) > 1
-    return is_mixed and pair.is_fd != unit.is_all_fd[pair.is_extended]
+    return is_mixed(unit, pair) and pair.is_fd != unit.is_all_fd[pair.is_extended]
 
 
 def why_apart(unit: Unit, pair: Pair) -> str:
@@ -255,11 +261,14 @@ def why_apart(unit: Unit, pair: Pair) -> str:
     return f"{shown} is of {other} here, and a tester by {own} can't have it, too"
 
 
-def own_functional(unit: Unit, pair: Pair) -> Optional[int]:
-    """The functional identifier that a tester's table has; None where it needs none."""
+def own_functional(unit: Unit, place: int) -> tuple[Optional[int], str]:
+    """The functional identifier that the table of a tester has, and a word about it; None where it needs none."""
+    pair = unit.pairs[place]
     if is_apart(unit, pair):
-        return free_identifier(unit, pair.is_extended)
-    return unit.functional_29 if pair.is_extended and unit.functional_29 != FUNCTIONAL_29 else None
+        return free_identifier(unit, pair.is_extended), f"  # a free one: {why_apart(unit, pair)}"
+    if place in unit.unheard and not is_mixed(unit, pair):
+        return free_identifier(unit, pair.is_extended), "  # a free one: functional requests were answered to others alone"
+    return unit.functional_29 if pair.is_extended and unit.functional_29 != FUNCTIONAL_29 else None, ""
 
 
 def tester_tables(unit: Unit) -> Iterator[str]:
@@ -268,9 +277,8 @@ def tester_tables(unit: Unit) -> Iterator[str]:
         request, response = it.texts()
         yield f'[[tester]]\nname = "{it.name}"\n{"extended = true" + chr(10) if it.is_extended else ""}'
         yield f"request = 0x{request}\nresponse = 0x{response}\n"
-        functional = own_functional(unit, it)
+        functional, why = own_functional(unit, place)
         if functional is not None:
-            why = f"  # a free one: {why_apart(unit, it)}" if is_apart(unit, it) else ""
             yield f"functional = 0x{functional:0{len(request)}X}{why}\n"
         yield "fd = true\n" if it.is_fd else ""
 
