@@ -1124,6 +1124,15 @@ class OfRecordings(unittest.TestCase):
         found = learned_of(asked(("1003", "5003003201F4"), ("2E010001", "6E0100"), read, ("2E0100FF", "7F2E31"), read))
         self.assertEqual((0, "", {"2E0100FF": ["7F2E31"]}), (found.status, found.told, rows_of(found)))
 
+    def test_an_answer_that_by_rows_is_one_to_another_request(self) -> None:
+        """Rows are made anew for what it answers then."""
+        asks = ["1083", "1003", "0100", "34001122", "107F", "2703", "2F010003", "22F190F191", "1003"]
+        moments = [2, 72, 9080, 15200, 15271, 25284, 27184, 30186, 31087]
+        lines = [(at, f"7E0#{len(it) // 2:02X}{it}") for at, it in zip(moments, asks)]
+        lines[2:2] = [(3072, "7DF#021083"), (3075, "7E8#037F1036")]
+        found = learned_of(frames(*lines), "--pair", "7E0:7E8", "--pair", "7E1:7E9")
+        self.assertEqual(0, found.status, found.told)
+
     def test_a_routine_that_is_started_without_a_reply(self) -> None:
         """It begins, be it known or not."""
         session, start, silent, runs, done = ("1003", "5003003201F4"), ("31010204", "71010204"), ("31810204",), ("31030204", "7103020401"), ("31030204", "7103020400AB")

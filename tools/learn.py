@@ -200,9 +200,13 @@ def learned(unit: Unit, judge: Judge, source: str, progress: Progress) -> tuple[
         progress.at(0.4 + 0.6 * number / MOST_ROUNDS, f"{count_of(verdict)} exchanges differ")
         idle = 0 if best is None or count_of(verdict) < count_of(best[1]) else idle + 1
         best = (text, verdict, plan.left_out, unit.rows) if idle == 0 else best
-        if verdict.status != DIFFERS or idle > MOST_IDLE or not plan.widen(verdict.exchanges):
+        if verdict.status != DIFFERS or idle > MOST_IDLE:
             break
+        is_wider, before = plan.widen(verdict.exchanges), unit.rows
         unit.rows = plan.rows(unit, verdict.exchanges)
+        # (by other rows a message may answer another request)
+        if not is_wider and unit.rows == before:
+            break
     *found, unit.rows = prompter(unit, judge, source, best)
     return tuple(found)
 
