@@ -1,6 +1,6 @@
 -- How the lines that are heard go, piece by piece.
 use Rattle.diag_can.specs.declared.frame.KnownId.{KnownId}
-use Rattle.std.proofs.Common.{◌≡◌, ℕ, ◌+◌, ◌<◌, ◌^◌, nat_lt, true, List, [], ◌∷◌, ◌++◌, length, map, Result, Ok, Err, refl, sym, ap, subst, ◌∙◌, append_assoc, length-append, arith}
+use Rattle.std.proofs.Common.{◌≡◌, ℕ, ◌+◌, ◌<◌, nat_lt, true, List, [], ◌∷◌, ◌++◌, length, map, Result, Ok, Err, refl, sym, ap, subst, ◌∙◌, append_assoc, length-append, arith}
 use Rattle.std.proofs.lemmas.List.{append-nil, map-append}
 use Rattle.std.proofs.lemmas.Bool.Decides.{nat_tests}
 use Rattle.diag_can.specs.BusLine.{HasNoFeed, begun_line, bus_line, bus_lines, ended_lines}
@@ -22,7 +22,7 @@ heard_text a b =
     ap (λ (t : List Taken). record_text (capture_of t)) (map-append Heard a b)
     ∙ (ap record_text (capture_of-append (map Heard a) (map Heard b)) ∙ record_text-append (capture_of (map Heard a)) (capture_of (map Heard b)))
 
--- these are the identifiers of 29 bits that are read
+-- these identifiers are read that are passed over otherwise
 module _ (known : List KnownId) where
   heard_good : (a b : List (List ℕ)) → AreGood known (map Heard a) → AreGood known (map Heard b) → AreGood known (map Heard (a ++ b))
   heard_good a b x y = subst (AreGood known) (sym (map-append Heard a b)) (good_join known (map Heard a) (map Heard b) x y)

@@ -105,7 +105,7 @@ digits_plain (c ∷ text) h = pick (is_digit c) refl h (digits_plain text)
         clash : false ≡ true → ⊥
         clash x = cc
 
-plain_restamped : (line : List ℕ) → HasNoFeed line → HasNoFeed (restamped line)
+pub plain_restamped : (line : List ℕ) → HasNoFeed line → HasNoFeed (restamped line)
 plain_restamped [] plain = plain
 plain_restamped (c ∷ line) plain = pick (c == 40)
   where
@@ -115,7 +115,7 @@ plain_restamped (c ∷ line) plain = pick (c == 40)
         (All-drop (λ c. is_feed c ≡ false) (position_or_len is_close line + 1) line (All-drop (λ c. is_feed c ≡ false) 1 (c ∷ line) plain))
     pick false = plain
 
-plain_ticks : (count : ℕ) → count ≤ 60000 → HasNoFeed (tick_line count)
+pub plain_ticks : (count : ℕ) → count ≤ 60000 → HasNoFeed (tick_line count)
 plain_ticks count few =
     All-append (λ c. is_feed c ≡ false) (codes "tick ") (decimal count) (no_feed_in (codes "tick ") refl)
     (no_feed_in (decimal count) (digits_plain (decimal count) (decimal_digits count (omega (arith, few)))))

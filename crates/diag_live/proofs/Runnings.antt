@@ -373,3 +373,7 @@ turn_refused Does old i i' o r kept = inl (inl ([], Consumes-kept i i i' [] (Con
 -- a fault that is answered is this one
 pub err_same : {X : Type 0} (f g : RunFault) → ◌≡◌ {A = Result X RunFault} (Err f) (Err g) → f ≡ g
 err_same {X} f g same = cc
+
+-- and so is one that is passed on
+pub fault_passed : {X Y : Type 0} (f g : RunFault) → ◌≡◌ {A = Result X RunFault} (Err f) (Err g) → ◌≡◌ {A = Result Y RunFault} (Err f) (Err g)
+fault_passed {X} {Y} f g same = ap (λ (e : RunFault). (let r : Result Y RunFault = Err e in r)) (err_same {X = X} f g same)

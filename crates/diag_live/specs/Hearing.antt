@@ -15,7 +15,7 @@ pub record HasHeard (hearing : Hearing) (seen : List ℕ) : Type 0 where
   pub kept : hearing.kept.items ≡ begun_line seen
   pub count : hearing.lines ≡ length (ended_lines seen)
 
--- these are the identifiers of 29 bits that are read
+-- these identifiers are read that are passed over otherwise
 module _ (known : List KnownId) where
   -- these lines more were ended, none of which is at fault, and the capture grew by them
   pub record Ends (new : Hearing) (seen bytes more : List ℕ) : Type 0 where

@@ -37,6 +37,8 @@ pub record RestampLaw : Type 0 where
       → bus_line known (restamped line) ≡ Ok (but_for_moment said)
   pub ticks : (known : List KnownId) (count : ℕ) → 1 ≤ count → count ≤ 60000
       → bus_line known (tick_line count) ≡ Ok (Ticks count)
+  pub plain : (line : List ℕ) → HasNoFeed line → HasNoFeed (restamped line)
+  pub plain_ticks : (count : ℕ) → count ≤ 60000 → HasNoFeed (tick_line count)
 
 -- ---- what was taken
 
@@ -61,7 +63,7 @@ heard_line (Ticked count) = None
 abbrev pub lines_of : List Taken → List (List ℕ)
 lines_of taken = filter_map heard_line taken
 
--- these are the identifiers of 29 bits that are read
+-- these identifiers are read that are passed over otherwise
 module _ (known : List KnownId) where
   -- a line that was heard is one line and says something; of the clock's ticks there are at least 1 and at most 60000
   abbrev pub IsGood : Taken → Type 0

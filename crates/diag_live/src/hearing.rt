@@ -59,7 +59,7 @@ impl Hearing {
     }
 
     /// Takes a piece, and adds to the capture the lines that it ends. At a line at fault it stops behind those before it.
-    /// Of the identifiers of 29 bits these are read.
+    /// These identifiers are read that are passed over otherwise.
     pub(crate) fn take_piece(
         &mut self,
         known: &[KnownId],

@@ -1,6 +1,6 @@
 //! A live run: the config, then the bus as it goes.
 
-ghost use Rattle.std.specs.Prelude.{◌≡◌, ◌⊎◌, Err, IfOk, IfErr, OnOk};
+ghost use Rattle.std.specs.Prelude.{◌≡◌, ◌≢◌, ◌⊎◌, ◌<◌, Err, IfOk, IfErr, OnOk};
 ghost use Rattle.diag_live.specs.Pace.{Did, GaveUp, KeepsPace};
 ghost use Rattle.diag_live.specs.Serving.{CannotHear, HaltsWith, Turned};
 ghost use Rattle.diag_live.specs.Stops.{Lived, LivedWith, Stopped, StoppedWith};
@@ -11,7 +11,7 @@ use crate::serving::Serving;
 use diag_bus::{Bus, Replies};
 use diag_run::{Outcome, read_config};
 use diag_setup::Setup;
-use diag_text::RunFault;
+use diag_text::{RunFault, Target};
 use std::alloc::Global;
 use std::io::{Read, Write};
 
@@ -21,13 +21,13 @@ use std::io::{Read, Write};
 /// place of its own, and `tick` lines between them: turn by turn, a tick for each millisecond that the clock told since it
 /// told last, and then the lines that were heard. Each `hear` is asked until the moment at which something falls due or ends
 /// for the unit. What is written is what the bus writes of that capture. Before each
-/// `hear` the capture so far was recorded and flushed, and then what it draws.
+/// `hear` the capture so far was recorded and flushed, and then what it draws was written and flushed; and so it is at the end.
 ///
 /// # Errors
 /// `Capture` with the number of the first line of the input at fault, or of the line by which, or before which, a
 /// tester's clock would pass 2^63 ms; `Read(1)` where the bench can't hear further, and only there (or behind 2^64 - 1
-/// turns); `Memory`; and `Write` where the output or the record can't be written.
-pub fn live<B: Bench, W: Write, R: Write>(
+/// turns); `Memory`; and `Write` only where a write or a flush of the output or of the record failed, or took no byte.
+pub fn live<B: Bench, W: Target, R: Target>(
     alloc: Global,
     setup: Setup,
     bench: &mut B,
@@ -40,6 +40,10 @@ pub fn live<B: Bench, W: Write, R: Write>(
     ensures fault { IfErr result (Stopped setup (B.remaining bench.old) (B.remaining bench.new)
         (W.contents out.old) (W.contents out.new) (R.contents recorder.old) (R.contents recorder.new)) }
     ensures unheard { result ≡ Err (RunFault.Read 1) → GaveUp B.story bench.old bench.new }
+    ensures write { result ≡ Err RunFault.Write → W.failed out.new ⊎ R.failed recorder.new }
+    ensures unfailed { result ≢ Err RunFault.Write
+        → (W.sound out.old → W.sound out.new) × (R.sound recorder.old → R.sound recorder.new) }
+    ensures flushed { OnOk result (W.flushed out.new × R.flushed recorder.new) }
 {
     let bus = Bus::new(alloc, setup, Replies::new(alloc))?;
     let mut serving = Serving::begin(alloc, bus, bench.now())?;
@@ -53,13 +57,15 @@ pub fn live<B: Bench, W: Write, R: Write>(
     Err(RunFault::Read(1))
 }
 
-/// Hears what comes next, and serves it; whether the run goes on.
-fn turn<B: Bench, W: Write, R: Write>(
+/// Hears what comes next, and serves it; whether the run goes on. Once a line was taken, all that was recorded and written was
+/// flushed before.
+fn turn<B: Bench, W: Target, R: Target>(
     serving: &mut Serving,
     bench: &mut B,
     out: &mut W,
     recorder: &mut R,
 ) -> Result<bool, RunFault>
+    requires flushed { 0 < serving.old.capture.lines → W.flushed out.old × R.flushed recorder.old }
     ensures ok { IfOk result (Turned (Did B.story bench.old bench.new) serving.old serving.new
         (B.remaining bench.old) (B.remaining bench.new)
         (W.contents out.old) (W.contents out.new) (R.contents recorder.old) (R.contents recorder.new)) }
@@ -70,6 +76,10 @@ fn turn<B: Bench, W: Write, R: Write>(
         ⊎ CannotHear (Did B.story bench.old bench.new) (B.remaining bench.old) (B.remaining bench.new)
         (W.contents out.old) (W.contents out.new)
         (R.contents recorder.old) (R.contents recorder.new) fault) }
+    ensures write { result ≡ Err RunFault.Write → W.failed out.new ⊎ R.failed recorder.new }
+    ensures unfailed { result ≢ Err RunFault.Write
+        → (W.sound out.old → W.sound out.new) × (R.sound recorder.old → R.sound recorder.new) }
+    ensures flushed { OnOk result (W.flushed out.new × R.flushed recorder.new) }
 {
     let heard = bench.hear(serving.due(), serving.is_in_block());
     let now = bench.now();
@@ -95,7 +105,7 @@ fn turn<B: Bench, W: Write, R: Write>(
 ///
 /// # Errors
 /// The first fault of the config, before which nothing is heard or written; then those of `live`.
-fn run_live<C: Read, B: Bench, W: Write, R: Write>(
+fn run_live<C: Read, B: Bench, W: Target, R: Target>(
     alloc: Global,
     config: &mut C,
     bench: &mut B,
@@ -109,6 +119,10 @@ fn run_live<C: Read, B: Bench, W: Write, R: Write>(
     ensures fault { IfErr result (StoppedWith B.remaining (C.remaining config.old) (C.remaining config.new)
         bench.old bench.new
         (W.contents out.old) (W.contents out.new) (R.contents recorder.old) (R.contents recorder.new)) }
+    ensures write { result ≡ Err RunFault.Write → W.failed out.new ⊎ R.failed recorder.new }
+    ensures unfailed { result ≢ Err RunFault.Write
+        → (W.sound out.old → W.sound out.new) × (R.sound recorder.old → R.sound recorder.new) }
+    ensures flushed { OnOk result (W.flushed out.new × R.flushed recorder.new) }
 {
     match read_config(alloc, config) {
         Ok(setup) => live(alloc, setup, bench, out, recorder),

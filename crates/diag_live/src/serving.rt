@@ -1,6 +1,6 @@
 //! What is kept of a live run between two calls of its bench.
 
-ghost use Rattle.std.specs.Prelude.{◌≡◌, ◌<◌, ◌↔◌, ℕ, ◌-◌, ◌+◌, ◌^◌, max, min, IsTrue, [], length, IfOk, IfErr, OnOk};
+ghost use Rattle.std.specs.Prelude.{◌≡◌, ◌≢◌, ◌⊎◌, ◌<◌, ◌↔◌, ℕ, ◌-◌, ◌+◌, ◌^◌, max, min, IsTrue, [], length, Err, IfOk, IfErr, OnOk};
 ghost use Rattle.diag_bus.specs.Bus.{TookLines};
 ghost use Rattle.diag_text.specs.Bytes.{Sends};
 ghost use Rattle.diag_world.specs.Block.{some_in_block};
@@ -13,9 +13,8 @@ use crate::hearing::{HearFault, Hearing};
 use crate::restamp::add_time;
 use diag_bus::{Bus, BusFault, Replies};
 use diag_run::{Capture, CaptureFault, run_fault};
-use diag_text::{RunFault, write_text};
+use diag_text::{RunFault, Target, write_text};
 use std::alloc::{AllocError, Global};
-use std::io::Write;
 
 /// What is kept of a live run between two calls of its bench.
 #[derive(Drop)]
@@ -38,6 +37,7 @@ impl Serving {
         ensures stands { IfOk result (λ serving. (s : ServingStands serving [] [] []) × (s.taken ≡ [])) }
         ensures told { IfOk result (λ serving. serving.told ≡ now) }
         ensures setup { IfOk result (λ serving. serving.capture.bus.setup ≡ bus.setup) }
+        ensures lines { IfOk result (λ serving. serving.capture.lines ≡ 0) }
     {
         let capture = Capture::begin(alloc, bus)?;
         Ok(Serving {
@@ -64,8 +64,8 @@ impl Serving {
         self.capture.is_in_block()
     }
 
-    /// Passes the time up to this moment, and takes a piece: the record has it, and what it draws was written.
-    pub(crate) fn serve<W: Write, R: Write>(
+    /// Passes the time up to this moment, and takes a piece: the record has it, what it draws was written, and both were flushed.
+    pub(crate) fn serve<W: Target, R: Target>(
         &mut self,
         now: u64,
         piece: &[u8],
@@ -78,6 +78,10 @@ impl Serving {
         ensures err { IfErr result (λ fault. Sends (W.contents out.old) (W.contents out.new) (λ sent.
             Sends (R.contents recorder.old) (R.contents recorder.new) (λ noted.
             ServingHalts self.old fault piece.now sent noted))) }
+        ensures write { result ≡ Err RunFault.Write → W.failed out.new ⊎ R.failed recorder.new }
+        ensures unfailed { result ≢ Err RunFault.Write
+            → (W.sound out.old → W.sound out.new) × (R.sound recorder.old → R.sound recorder.new) }
+        ensures flushed { OnOk result (W.flushed out.new × R.flushed recorder.new) }
     {
         let heard = self.hearing.lines();
         let ticks = self.pass(now)?;
@@ -96,7 +100,7 @@ impl Serving {
     }
 
     /// Passes the time up to this moment, and takes a line that is begun as the last.
-    pub(crate) fn end<W: Write, R: Write>(
+    pub(crate) fn end<W: Target, R: Target>(
         &mut self,
         now: u64,
         out: &mut W,
@@ -108,6 +112,10 @@ impl Serving {
         ensures err { IfErr result (λ fault. Sends (W.contents out.old) (W.contents out.new) (λ sent.
             Sends (R.contents recorder.old) (R.contents recorder.new) (λ noted.
             ServingHalts self.old fault (last_feed self.old.hearing.kept.items) sent noted))) }
+        ensures write { result ≡ Err RunFault.Write → W.failed out.new ⊎ R.failed recorder.new }
+        ensures unfailed { result ≢ Err RunFault.Write
+            → (W.sound out.old → W.sound out.new) × (R.sound recorder.old → R.sound recorder.new) }
+        ensures flushed { OnOk result (W.flushed out.new × R.flushed recorder.new) }
     {
         if self.hearing.is_begun() {
             self.serve(now, b"\n", out, recorder)
@@ -133,7 +141,7 @@ impl Serving {
 
     /// Writes what the capture grows by to the record, and takes it. So many lines had been heard, when so many stood in
     /// the capture before those that were heard now.
-    fn deliver<W: Write, R: Write>(
+    fn deliver<W: Target, R: Target>(
         &mut self,
         heard: u64,
         first: u64,
@@ -146,6 +154,10 @@ impl Serving {
         ensures err { IfErr result (λ fault. Sends (W.contents out.old) (W.contents out.new) (λ sent.
             Sends (R.contents recorder.old) (R.contents recorder.new) (λ noted.
             Undelivered self.old.capture heard first self.old.text.items sent noted fault))) }
+        ensures write { result ≡ Err RunFault.Write → W.failed out.new ⊎ R.failed recorder.new }
+        ensures unfailed { result ≢ Err RunFault.Write
+            → (W.sound out.old → W.sound out.new) × (R.sound recorder.old → R.sound recorder.new) }
+        ensures flushed { OnOk result (W.flushed out.new × R.flushed recorder.new) }
         ensures hearing { self.new.hearing ≡ self.old.hearing }
         ensures told { self.new.told ≡ self.old.told }
     {

@@ -15,6 +15,6 @@ pub returns-in-Err-clause-fault : goal.returns-in-Err-clause-fault
 returns-in-Err-clause-fault g c = inl (record {
   ends = c.in-Err.ensures.ends;
   untouched = refl;
-  nothing = Keeps-refl (g.W.Write.contents c.args.out.now);
-  unnoted = Keeps-refl (g.R.Write.contents c.args.recorder.now);
+  nothing = Keeps-refl (g.W.Target.contents c.args.out.now);
+  unnoted = Keeps-refl (g.R.Target.contents c.args.recorder.now);
 })

@@ -21,15 +21,15 @@ returns-in_err-ticks-clause-err g c =
     let p = err_from_is_err_and c.from_residual.result c.from_residual.ensures.1 in
     rw (p.1, p.2) (
       [],
-      Appends-nil (g.W.Write.contents c.args.out.now),
-      ([], Appends-nil (g.R.Write.contents c.args.recorder.now), refused_halts c.args.self.now c.args.piece.now),
+      Appends-nil (g.W.Target.contents c.args.out.now),
+      ([], Appends-nil (g.R.Target.contents c.args.recorder.now), refused_halts c.args.self.now c.args.piece.now),
     )
 
 pub returns-in-Err-Memory-clause-err : goal.returns-in-Err-Memory-clause-err
 returns-in-Err-Memory-clause-err g c = (
   [],
-  Appends-nil (g.W.Write.contents c.args.out.now),
-  ([], Appends-nil (g.R.Write.contents c.args.recorder.now), refused_halts c.args.self.now c.args.piece.now),
+  Appends-nil (g.W.Target.contents c.args.out.now),
+  ([], Appends-nil (g.R.Target.contents c.args.recorder.now), refused_halts c.args.self.now c.args.piece.now),
 )
 
 pub returns-in-Ok-clause-ok : goal.returns-in-Ok-clause-ok
