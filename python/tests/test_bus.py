@@ -12,9 +12,10 @@ import sys
 import tempfile
 import time
 import unittest
+from collections.abc import Iterator
 from math import nextafter
 from pathlib import Path
-from types import SimpleNamespace
+from typing import Any
 from unittest import mock
 
 from uds_unit import ClosedFault
@@ -25,6 +26,48 @@ PACKAGE = str(Path(__file__).resolve().parent.parent)
 
 def has(*names: str) -> bool:
     return all(importlib.util.find_spec(name) is not None for name in names)
+
+
+class ByHand:
+    """The bus of a unit and its clock. The test makes the turns of the unit's thread, and says when they are."""
+
+    def __init__(self) -> None:
+        self.now = 0.0
+        self.unit: Any = None
+        self._heard: list[Any] = []
+        self._sent: list[Any] = []
+
+    def monotonic(self) -> float:
+        return self.now
+
+    def recv(self, _: float) -> Any:
+        return self._heard.pop() if self._heard else None
+
+    def send(self, message: Any) -> None:
+        self._sent.append(message)
+
+    def turn(self, now: float) -> str:
+        """A turn at this moment: what goes in it, each frame by its identifier and its first byte."""
+        self.now = now
+        self._sent.clear()
+        self.unit._turn()
+        return " ".join(f"{it.arbitration_id:03X}#{it.data[0]:02X}" for it in self._sent)
+
+    def take(self, now: float, data: str, id: int = 0x7E0) -> str:
+        """The same, where the unit hears this frame."""
+        import can
+
+        self._heard.append(can.Message(arbitration_id=id, data=bytes.fromhex(data), is_extended_id=id > 0x7FF))
+        return self.turn(now)
+
+
+@contextlib.contextmanager
+def by_hand(setup: bytes) -> Iterator[ByHand]:
+    from uds_unit.bus import UnitBus
+
+    hand = ByHand()
+    with mock.patch("uds_unit.bus.time", hand), mock.patch("threading.Thread"), UnitBus(hand, setup) as hand.unit:
+        yield hand
 
 
 @unittest.skipUnless(has("can"), "python-can isn't installed")
@@ -140,57 +183,66 @@ class BusTests(unittest.TestCase):
         self.assertEqual((heard.arbitration_id, heard.data.hex()), (0x7E8, "001462f190" + 17 * "30" + "cccc"))
 
     def test_a_look_just_before_a_frame_is_due(self) -> None:
-        """The frame is still the thread's to send. Here the test makes the thread's turns, and says what its clock does."""
-        from uds_unit.bus import UnitBus
-
-        heard, sent, clock = [], [], SimpleNamespace(now=0.0)
-        bus = mock.Mock(recv=lambda _: heard.pop() if heard else None, send=sent.append)
-        ours = SimpleNamespace(monotonic=lambda: clock.now)
-        with mock.patch("uds_unit.bus.time", ours), mock.patch("threading.Thread"), UnitBus(bus, SETUP) as unit:
-            for clock.now, data in ((0.0, "0322F190"), (0.001, "30000A")):
-                heard.append(self.Message(arbitration_id=0x7E0, data=bytes.fromhex(data), is_extended_id=False))
-                unit._turn()
+        """The frame is still the thread's to send."""
+        with by_hand(SETUP.read_bytes()) as hand:
+            self.assertEqual(hand.take(0.0, "0322F190"), "7E8#10")
+            self.assertEqual(hand.take(0.001, "30000A"), "7E8#21")
+            unit = hand.unit
             looks = [lambda: unit.session, lambda: unit.values, lambda: unit.set_code(0xC10000, 1), lambda: unit.journal()]
-            for clock.now, look in zip((0.0105, 0.0109994, 0.0109996, nextafter(0.011, 0)), looks):
+            for hand.now, look in zip((0.0105, 0.0109994, 0.0109996, nextafter(0.011, 0)), looks):
                 look()
-                unit._turn()
-                self.assertEqual([it.data[0] for it in sent], [0x10, 0x21])
-            clock.now = 0.011
-            unit._turn()
-            self.assertEqual([it.data[0] for it in sent], [0x10, 0x21, 0x22])
+                self.assertEqual(hand.turn(hand.now), "")
+            self.assertEqual(hand.turn(0.011), "7E8#22")
 
     def test_its_clock_under_load(self) -> None:
-        """It keeps pace while one tester's request is under way and another asks all the while: here, too, the test is the thread."""
-        from uds_unit.bus import UnitBus
-
-        heard, sent, clock = [], [], SimpleNamespace(now=0.0)
-        bus = mock.Mock(recv=lambda _: heard.pop() if heard else None, send=sent.append)
-        ours = SimpleNamespace(monotonic=lambda: clock.now)
-
-        def take(now: float, id: int, data: str) -> None:
-            clock.now = now
-            heard.append(self.Message(arbitration_id=id, data=bytes.fromhex(data), is_extended_id=False))
-            unit._turn()
-
-        with mock.patch("uds_unit.bus.time", ours), mock.patch("threading.Thread"), UnitBus(bus, SETUP) as unit:
-            take(0.0009, 0x7E0, "103022F190F190F1")
+        """It keeps pace while one tester's request is under way and another asks all the while, and with a late frame."""
+        with by_hand(SETUP.read_bytes()) as hand:
+            hand.take(0.0009, "103022F190F190F1")
             for turn in range(1, 91):
-                take(turn / 100 + 0.0009, 0x7A0, "023E00")
-            self.assertEqual((len(sent), unit._now()), (91, clock.now))
-            # a frame of a long answer is as late as it went, and that only while another may follow
-            take(0.9109, 0x7E0, "21F190F190F190F1")
-            take(0.9209, 0x7A0, "0322F190")
-            take(0.9315, 0x7A0, "300014")
-            self.assertAlmostEqual(unit._now(), 0.93)
-            for clock.now, last in ((0.9505, 0x21), (0.9514, 0x21), (0.9516, 0x22), (1.2, 0x22)):
-                unit._turn()
-                self.assertEqual(sent[-1].data[0], last)
-            self.assertEqual(unit._now(), 1.2)
-            # it makes up for seconds by and by
-            unit._late = 3.0
-            for clock.now, is_now in ((1.7, -0.8), (2.7, 1.2), (4.2, 4.2), (5.0, 5.0)):
-                unit._turn()
-                self.assertAlmostEqual(unit._now(), is_now)
+                self.assertEqual(hand.take(turn / 100 + 0.0009, "023E00", 0x7A0), "7A8#02")
+            hand.take(0.9109, "21F190F190F190F1")
+            hand.take(0.9209, "0322F190", 0x7A0)
+            hand.take(0.9315, "300014", 0x7A0)
+            self.assertEqual(hand.take(0.94, "103022F190F190F1", 0x7A0), "7A8#30")
+            for now, sent in ((0.9505, ""), (0.9514, ""), (0.9516, "7A8#22")):
+                self.assertEqual((hand.turn(now), hand.unit._now()), (sent, now))
+
+    def test_frames_that_are_overdue(self) -> None:
+        """They go as far apart as ever, and those to the other tester as if there were none."""
+        with by_hand(SETUP.read_bytes()) as hand:
+            hand.take(0.0, "0522F190F190")
+            hand.take(0.0, "0522F190F190", 0x7A0)
+            self.assertEqual(hand.take(0.0019, "30000A"), "7E8#21")
+            # three are due then
+            self.assertEqual(hand.turn(0.0405), "7E8#22")
+            self.assertEqual(hand.take(0.0406, "023E00"), "")
+            self.assertEqual(hand.take(0.0415, "30000A", 0x7A0), "7A8#21")
+            for now, sent in ((0.0504, ""), (0.0506, "7E8#23"), (0.0514, ""), (0.0516, "7A8#22"), (0.0605, ""), (0.0607, "7E8#24")):
+                self.assertEqual(hand.turn(now), sent)
+            self.assertEqual(hand.turn(0.0708), "7E8#25 7E8#02 7A8#23")
+
+    def test_flow_control_while_a_frame_waits(self) -> None:
+        """To the tester it is in the middle of a block. The first frame of the next block owes no separation time."""
+        with by_hand(SETUP.read_bytes()) as hand:
+            hand.take(0.0, "0522F190F190")
+            self.assertEqual(hand.take(0.0009, "30020A"), "7E8#21")
+            self.assertEqual(hand.turn(0.0105), "")
+            self.assertEqual(hand.take(0.0106, "300000"), "")
+            self.assertEqual(hand.turn(0.0115), "7E8#22")
+            self.assertEqual(hand.turn(0.1), "")
+            self.assertEqual(hand.take(0.1, "300000"), "7E8#23 7E8#24 7E8#25")
+
+    def test_flow_control_behind_a_late_frame(self) -> None:
+        """It is waited for from when the frame went, whatever the tester's frames are."""
+        more = b'tx_dl = 8\nn_bs_ms = 20\ndid = [{ id = 1, value = "%s" }]\n' % (30 * b"5A")
+        for id, kind in ((0x600, b"fd = false"), (0x600, b"fd = true"), (0x18DA10F1, b"extended = true")):
+            setup = more + b'tester = [{ name = "A", request = %d, response = 2, functional = 3, %s }]' % (id, kind)
+            for now, sent in ((0.0449, "002#23 002#24"), (0.0451, "")):
+                with by_hand(setup) as hand:
+                    hand.take(0.0, "03220001", id)
+                    self.assertEqual(hand.take(0.0, "30020A", id), "002#21")
+                    self.assertEqual(hand.turn(0.0251), "002#22")
+                    self.assertEqual(hand.take(now, "300000", id), sent)
 
     def test_a_handler_that_calls_it(self) -> None:
         """The signal comes in the middle of a look, and the thread has to wait then."""

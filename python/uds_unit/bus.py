@@ -3,7 +3,9 @@ import contextlib
 import os
 import threading
 import time
+from collections import deque
 from collections.abc import Iterator, Mapping
+from math import inf
 from types import MappingProxyType
 from typing import Self
 
@@ -16,9 +18,11 @@ PATIENCE = 0.05
 # the most seconds that a frame may take to go out (N_As of ISO 15765-2), and between two tries where the adapter takes none
 N_AS = 1.0
 BREATH = 0.0005
-# the first four bits of a FirstFrame and of a ConsecutiveFrame, and more seconds than the longest separation time has
-OF_LONG_ANSWER = (1, 2)
-APART = 0.15
+# the first four bits of a frame of ISO 15765-2
+FIRST, CONSECUTIVE, FLOW = 1, 2, 3
+# FlowControl that asks to wait, and by how many seconds a frame goes late before N_Bs is begun anew by it
+WAIT = b"\x31\0\0"
+LATE = 0.005
 # how many bytes a frame of CAN FD may have
 LENGTHS = (*range(9), 12, 16, 20, 24, 32, 48, 64)
 
@@ -31,8 +35,44 @@ def carried(message: can.Message) -> bytes | None:
     return data.ljust(next(it for it in LENGTHS if it >= len(data)), b"\0") if len(data) <= most else None
 
 
+def kind(data: bytes | bytearray) -> int:
+    """The first four bits of a frame; 0 where it has no byte."""
+    return data[0] >> 4 if data else 0
+
+
 class _Stopped(Exception):
     """The thread is to end."""
+
+
+class _Line:
+    """What goes to one tester, in the unit's order. A ConsecutiveFrame waits here until its separation time is over."""
+
+    def __init__(self, request: tuple[int, bool]) -> None:
+        self.request = request
+        # (each with the seconds that it goes behind the last ConsecutiveFrame, or later)
+        self.waiting: deque[tuple[Frame, float]] = deque()
+        # when the unit made the last ConsecutiveFrame, and when one went last
+        self._made = self._went = 0.0
+
+    @property
+    def due(self) -> float | None:
+        """When the first that waits may go; None where none waits."""
+        return self._went + self.waiting[0][1] if self.waiting else None
+
+    def add(self, frame: Frame, by_time: bool) -> None:
+        """Puts a frame behind those that wait. A ConsecutiveFrame that time alone draws is apart from the last one; what
+        FlowControl draws begins a block."""
+        gap = 0.0
+        if kind(frame.data) == CONSECUTIVE:
+            if by_time:
+                gap = frame.time - self._made
+            self._made = frame.time
+        self.waiting.append((frame, gap))
+
+    def mark(self, frame: Frame, now: float) -> None:
+        """Marks that a frame went."""
+        if kind(frame.data) == CONSECUTIVE:
+            self._went = now
 
 
 class UnitBus:
@@ -40,10 +80,10 @@ class UnitBus:
     where nobody has it any more. The bus stays the caller's, but while the thread runs nobody else reads from it: a Notifier, as
     any tester, wants a bus of its own on the channel.
 
-    The unit's time is the machine's monotonic clock. Where a frame of a long answer goes late, all that is due behind it goes as
-    much later, until nothing is waited for, or none went for APART; then its time goes at most twice as fast until it is right.
-    So two such frames are never nearer to each other than their separation time. A frame that the bus doesn't take, as where the
-    adapter's queue is full, is given to it again for a second; then the bus is at fault.
+    The unit's time is the machine's monotonic clock. Where a ConsecutiveFrame goes late, those behind it to the same tester go
+    later, too: two are never nearer to each other than their separation time. FlowControl that comes while one waits is passed
+    over, as any in the middle of a block, and is waited for from when the last one went. A frame that the bus doesn't take, as
+    where the adapter's queue is full, is given to it again for a second; then the bus is at fault.
 
     A fault of the bus ends the thread. From then on what asks or sets something of the unit raises it; `journal` doesn't.
     A signal's handler may call it, too, in the middle of a call; where it stops it, that call may raise ClosedFault.
@@ -59,8 +99,7 @@ class UnitBus:
         self._stopped = threading.Event()
         self._thread: threading.Thread | None = None
         self._begun = time.monotonic()
-        self._late = 0.0
-        self._last_of_long = self._turned = self._begun
+        self._lines = {name: _Line(request) for name, request in self._unit.requests.items()}
         self._told = ""
         self._closed = False
         self.fault: BaseException | None = None
@@ -164,7 +203,7 @@ class UnitBus:
     # ---- the thread
 
     def _now(self) -> float:
-        return time.monotonic() - self._begun - self._late
+        return time.monotonic() - self._begun
 
     def _run(self) -> None:
         try:
@@ -187,27 +226,44 @@ class UnitBus:
             self._lock.release()
 
     def _turn(self) -> None:
-        """Waits for a frame until the next one of the unit's is due, and sends what is due."""
+        """Waits for a frame until one of the unit's falls due or may go, and sends what may."""
         with self._held():
-            due, now = self._unit.due, time.monotonic()
-            if due is None or now - self._last_of_long > APART:
-                # (not at once: a session would end in it)
-                self._late = max(self._late - (now - self._turned), 0.0)
-            self._turned = now
-        heard = self.bus.recv(PATIENCE if due is None else min(max(due - self._now(), 0.0), PATIENCE))
+            seconds = self._until_next()
+        heard = self.bus.recv(seconds)
         with self._held():
-            while (due := self._unit.due) is not None and due <= self._now():
-                self._send(self._unit.advance(due))
+            now, due = self._now(), self._unit.due
+            if due is not None and due <= now:
+                self._line_up(self._unit.advance(now), by_time=True)
+            self._send()
             if heard is not None and self._is_taken(heard) and (data := carried(heard)) is not None:
-                self._send(self._unit.frame(self._now(), heard.arbitration_id, data, extended=heard.is_extended_id))
+                self._line_up(self._unit.frame(now, heard.arbitration_id, data, extended=heard.is_extended_id), by_time=False)
+                self._send()
 
-    def _send(self, frames: list[Frame]) -> None:
+    def _until_next(self) -> float:
+        """The seconds until a frame falls due or may go, at most PATIENCE."""
+        dues = (self._unit.due, *(line.due for line in self._lines.values()))
+        due = min((it for it in dues if it is not None), default=inf)
+        return min(max(due - self._now(), 0.0), PATIENCE)
+
+    def _line_up(self, frames: list[Frame], by_time: bool) -> None:
         for frame in frames:
-            self._put(self._message(frame))
-            # (none keeps a time from any other frame: with several testers what is late would grow all the while)
-            if frame.data[0] >> 4 in OF_LONG_ANSWER:
-                self._last_of_long = time.monotonic()
-                self._late += max(self._now() - frame.time, 0.0)
+            self._lines[frame.tester].add(frame, by_time)
+
+    def _send(self) -> None:
+        """Sends what may go."""
+        for line in self._lines.values():
+            while (due := line.due) is not None and due <= self._now():
+                self._send_first(line)
+
+    def _send_first(self, line: _Line) -> None:
+        """Sends the first frame that waits for a tester. The unit takes it to have gone at its time, and N_Bs to run since."""
+        frame, _ = line.waiting.popleft()
+        self._put(self._message(frame))
+        now = self._now()
+        line.mark(frame, now)
+        if now - frame.time > LATE and kind(frame.data) in (FIRST, CONSECUTIVE):
+            id, extended = line.request
+            self._line_up(self._unit.frame(now, id, WAIT, extended=extended), by_time=True)
 
     def _put(self, message: can.Message) -> None:
         """Gives a message to the bus, again and again where it doesn't take it."""
@@ -233,10 +289,13 @@ class UnitBus:
         )
 
     def _is_taken(self, message: can.Message) -> bool:
-        """Whether the unit is given a message: data of the others, by CAN FD only where a tester asks so by its identifier. One
-        with an identifier that no frame has, as a virtual bus may carry it, isn't."""
+        """Whether the unit is given a message: data of the others, by CAN FD only where a tester asks so by its identifier, and
+        FlowControl only behind a whole block. One with an identifier that no frame has, as a virtual bus may carry it, isn't."""
         if message.is_error_frame or message.is_remote_frame or not message.is_rx:
             return False
         if not 0 <= message.arbitration_id <= (LOW_29 if message.is_extended_id else LOW_11):
             return False
-        return not message.is_fd or (message.arbitration_id, message.is_extended_id) in self._unit.fd_requests
+        id = (message.arbitration_id, message.is_extended_id)
+        if kind(message.data) == FLOW and any(line.waiting and line.request == id for line in self._lines.values()):
+            return False
+        return not message.is_fd or id in self._unit.fd_requests

@@ -94,6 +94,11 @@ def _no_frame(id: int, extended: bool, length: int) -> str:
     return f"a frame has 0 to 8, 12, 16, 20, 24, 32, 48 or 64 bytes, and not {length}"
 
 
+def _requests(setup: dict[str, Any]) -> Iterator[tuple[str, tuple[int, bool]]]:
+    for tester in setup["tester"]:
+        yield tester["name"], (tester["request"], tester.get("extended", False))
+
+
 def _fd_requests(setup: dict[str, Any]) -> Iterator[tuple[int, bool]]:
     for tester in setup["tester"]:
         if tester.get("fd", False):
@@ -141,6 +146,8 @@ class Unit:
         tree = _tables(config)
         self.testers: tuple[str, ...] = tuple(tester["name"] for tester in tree["tester"])
         """The testers' names, in the order of the setup."""
+        self.requests: dict[str, tuple[int, bool]] = dict(_requests(tree))
+        """The identifier by which each tester asks, and whether it has 29 bits, by the tester's name."""
         self.fd_requests: frozenset[tuple[int, bool]] = frozenset(_fd_requests(tree))
         """The identifiers by which testers ask by CAN FD, each with whether it has 29 bits."""
         self.fd_flags: int = tree.get("fd_flags", 1)
