@@ -38,7 +38,7 @@ impl Side<'_> {
 /// A frame's line.
 #[derive(Drop)]
 struct Line<'a> {
-    interface: &'a str,
+    interface: &'a [u8],
     id: u32,
     is_extended: bool,
     is_flexible: bool,
@@ -125,7 +125,7 @@ impl Frames {
 /// How many data frames an interface has.
 #[derive(Drop)]
 struct Interface<'a> {
-    name: &'a str,
+    name: &'a [u8],
     frames: u64,
 }
 
@@ -212,17 +212,17 @@ enum Choice<'a> {
 
 impl Choice<'_> {
     /// Whether the frames of this interface count.
-    fn counts(self, interface: &str) -> bool {
+    fn counts(self, interface: &[u8]) -> bool {
         match self {
-            Choice::Only(name) => name == interface,
+            Choice::Only(name) => name.as_bytes() == interface,
             Choice::All | Choice::None => true,
         }
     }
 
     /// Whether this interface was chosen.
-    fn is_only(self, interface: &str) -> bool {
+    fn is_only(self, interface: &[u8]) -> bool {
         match self {
-            Choice::Only(name) => name == interface,
+            Choice::Only(name) => name.as_bytes() == interface,
             Choice::All | Choice::None => false,
         }
     }
@@ -334,7 +334,7 @@ impl<'a> Recording<'a> {
     }
 
     /// So many data frames more of the interface of this name.
-    fn interface(&mut self, name: &'a str, frames: u64) -> Result<(), AllocError> {
+    fn interface(&mut self, name: &'a [u8], frames: u64) -> Result<(), AllocError> {
         for interface in self.interfaces.iter_mut() {
             if interface.name == name {
                 interface.frames = interface.frames.saturating_add(frames);
@@ -460,12 +460,12 @@ impl<'a> Recording<'a> {
     /// Whether an interface was chosen of which no line was seen.
     fn is_without_chosen(&self) -> bool {
         match self.choice {
-            Choice::Only(name) => !self.has_interface(name),
+            Choice::Only(name) => !self.has_interface(name.as_bytes()),
             Choice::All | Choice::None => false,
         }
     }
 
-    fn has_interface(&self, name: &str) -> bool {
+    fn has_interface(&self, name: &[u8]) -> bool {
         self.interfaces
             .iter()
             .any(|interface| interface.name == name)
@@ -497,10 +497,11 @@ impl<'a> Recording<'a> {
         Ok(())
     }
 
-    /// Adds the flag that takes the first interface with frames.
+    /// Adds the flag that takes the first interface with frames, whose name is UTF-8, as a word must be.
     fn name_flag(&self, line: &mut String) -> Result<(), AllocError> {
-        if let Some(first) = self.interfaces.iter().find(|it| it.frames > 0) {
-            let name = ShownLine(first.name.as_bytes());
+        let mut named = self.interfaces.iter().filter(|it| it.frames > 0);
+        if let Some(first) = named.find(|it| str::from_utf8(it.name).is_ok()) {
+            let name = ShownLine(first.name);
             write!(line, "; --interface {name} takes those of one")?;
         }
         Ok(())
@@ -511,7 +512,7 @@ impl<'a> Recording<'a> {
         line.push_str(part)?;
         let with_frames = self.interfaces.iter().filter(|it| it.frames > 0);
         for (index, interface) in with_frames.enumerate() {
-            let name = ShownLine(interface.name.as_bytes());
+            let name = ShownLine(interface.name);
             let frames = interface.frames;
             let mark = if index == 0 { ":" } else { "," };
             write!(line, "{mark} {name} {frames}")?;
@@ -529,7 +530,7 @@ fn read_line(line: &[u8]) -> Option<Line<'_>> {
     let (interface, rest) = parted(behind_spaces(rest), b' ')?;
     let (id, rest) = parted(behind_spaces(rest), b'#')?;
     Some(Line {
-        interface: str::from_utf8(interface).ok()?,
+        interface,
         id: hex_number(id)?,
         is_extended: id.len() == 8,
         is_flexible: rest.starts_with(b"#"),
