@@ -1,8 +1,8 @@
 #!/usr/bin/env python3
 """Makes the man page and the completion for bash from what `uds_play --help` and `uds_play COMMAND --help` print, and
 compares them with man/uds_play.1 and completion/uds_play.bash; with --write it writes these. The page is read by man, where
-that is there, and the completion is tried in bash; the example of each command runs over demo/; and a terminal shows how
-far a long run is.
+that is there, and the completion is tried in bash; the example of each command runs over demo/; a terminal shows how
+far a long run is; and notes tell what no run of runs/words/ shows.
 Usage: test/words.py [--write]
 The last line is 'N passed, M failed'."""
 import os
@@ -244,6 +244,29 @@ def try_folder():
     told((done.stderr, done.returncode) == (text, 7), "why standard input can't be read", done)
 
 
+def noted(name, status, fault, notes, words, **streams):
+    """Whether a run ends so, with this line of a fault, and these notes behind it; with --quiet without them."""
+    fault = f"uds_play: {fault}\n"
+    for flags, text in (([], fault + "".join(f"uds_play: note: {it}\n" for it in notes)), (["--quiet"], fault)):
+        done = subprocess.run([PROGRAM, *flags, *words], capture_output=True, text=True, timeout=120, **streams)
+        told((done.stderr, done.returncode) == (text, status), " ".join([name, *flags]), done)
+
+
+def try_limits():
+    """Files beyond a limit, of which the note tells it."""
+    with tempfile.TemporaryDirectory() as folder:
+        setup, path, empty = f"{TOP}/runs/setup.toml", f"{folder}/long", f"{TOP}/runs/empty.log"
+        with open(path, "wb") as file:
+            file.write(b"\n" * 1_000_001)
+        note = "a log has at most 1000000 lines; bus takes a recording of any length"
+        noted("too many lines", 3, "log 1: too many lines", [note], ["serial", setup, path, empty])
+        note = "a log has at most 67108864 bytes and a journal 268435456; bus takes a recording of any length"
+        for size, words in ((67_108_865, ["play", setup, empty, path]), (268_435_457, ["replay", setup, path])):
+            with open(path, "wb") as file:
+                file.truncate(size)
+            noted(f"too many bytes: {words[0]}", 3, f"file {len(words) - 2}: too long", [note], words)
+
+
 def main():
     told.needs_program()
     whole = parts_of(help_of())
@@ -263,6 +286,7 @@ def main():
     try_examples(commands)
     try_terminal()
     try_folder()
+    try_limits()
     return told.ended()
 
 

@@ -4,6 +4,7 @@
 mod form;
 mod journal;
 mod kind;
+mod limit;
 mod line;
 mod often;
 mod place;
@@ -11,6 +12,7 @@ mod seen;
 
 pub use journal::expected;
 pub use kind::{Instead, TOO_LONG, file_kind, instead_of_setup, is_recording, looks};
+pub use limit::beyond;
 pub use line::{FoundLine, ShownLine, line_at};
 pub use place::Place;
 pub use seen::{Recording, Side};

@@ -7,7 +7,7 @@ use crate::source::MOST_KEPT;
 use diag_check::{Remark, check, look_at};
 use diag_config::read_setup;
 use diag_notes::{
-    FoundLine, Instead, Place, Recording, ShownLine, Side, TOO_LONG, expected, file_kind,
+    FoundLine, Instead, Place, Recording, ShownLine, Side, TOO_LONG, beyond, expected, file_kind,
     instead_of_setup, is_recording, line_at, looks,
 };
 use diag_run::Outcome;
@@ -154,6 +154,9 @@ impl Notes<'_> {
                 status,
             } => {
                 let told = str::from_utf8(told.as_slice()).unwrap_or("");
+                if let Some(limit) = beyond(told) {
+                    note(rt, limit);
+                }
                 match Place::of(told) {
                     Place::Nowhere if *status == 8 => self.unseen(rt, true, known.first),
                     place => self.at_place(rt, place, known),
