@@ -252,6 +252,15 @@ def noted(name, status, fault, notes, words, **streams):
         told((done.stderr, done.returncode) == (text, status), " ".join([name, *flags]), done)
 
 
+def try_unreadable():
+    """Standard input that isn't open for reading, as the launcher leaves a closed one."""
+    setup = f"{TOP}/demo/setup.toml"
+    with open(os.devnull, "wb") as closed:
+        for words in (["bus", setup], ["live", setup], ["compare", setup, "-"]):
+            note = "standard input: is it closed, or not open for reading?"
+            noted(f"standard input that isn't open: {words[0]}", 7, "cannot read file 1", [note], words, stdin=closed)
+
+
 def try_limits():
     """Files beyond a limit, of which the note tells it."""
     with tempfile.TemporaryDirectory() as folder:
@@ -286,6 +295,7 @@ def main():
     try_examples(commands)
     try_terminal()
     try_folder()
+    try_unreadable()
     try_limits()
     return told.ended()
 

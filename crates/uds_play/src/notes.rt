@@ -637,7 +637,10 @@ fn input_reason<R: Files + AllocGlobal>(rt: &R) -> Option<String> {
     if fs::metadata(rt, INPUT).is_err() {
         return String::from_str(rt.alloc(), "it is closed").ok();
     }
-    reason(rt, INPUT)
+    match reason(rt, INPUT) {
+        Some(reason) => Some(reason),
+        None => String::from_str(rt.alloc(), "is it closed, or not open for reading?").ok(),
+    }
 }
 
 /// Why a file can't be read.
