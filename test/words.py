@@ -276,6 +276,19 @@ def try_limits():
             noted(f"too many bytes: {words[0]}", 3, f"file {len(words) - 2}: too long", [note], words)
 
 
+def try_journal():
+    """The server's answer at the last entry of a journal of more than 64 MiB."""
+    with tempfile.TemporaryDirectory() as folder:
+        path, line = f"{folder}/journal", b"1 P " + b"BA" * 65535 + b" 7FBA11\n"
+        with open(path, "wb") as file:
+            file.write(b"diag-journal 1\n")
+            file.writelines(line for _ in range(520))
+            file.write(b"1 P 3E00 7E01\n")
+        told(os.path.getsize(path) > 67_108_864, "a long journal", "it isn't long")
+        notes = ["entry 521 is: 1 P 3E00 7E01", "the server answers 7E00"]
+        noted("the answer in a long journal", 8, "entry 521 differs", notes, ["replay", f"{TOP}/runs/setup.toml", path])
+
+
 def main():
     told.needs_program()
     whole = parts_of(help_of())
@@ -297,6 +310,7 @@ def main():
     try_folder()
     try_unreadable()
     try_limits()
+    try_journal()
     return told.ended()
 
 

@@ -24,7 +24,7 @@ const MOST_SETUP: usize = 1_048_576;
 const MOST_LOOK: usize = 1_048_576;
 
 /// The most bytes of a journal.
-const MOST_JOURNAL: usize = 67_108_864;
+const MOST_JOURNAL: usize = 268_435_456;
 
 /// How many of a file's first bytes tell what it is.
 const MOST_FIRST: usize = 4096;
