@@ -5,7 +5,8 @@ seed. The first line of `check` begins with the fault that a run tells, and name
 table was written here, and none where that isn't plain. Of rows of answers it says which never apply, for nothing leads to
 their session, or an earlier one takes all of their requests: those, and no others, for which no request of a few bytes says
 otherwise; and which are for session 3 where 10 83 alone leads there. Of lists of patterns and templates it tells each item that
-is none. A byte order mark changes nothing of what it says.
+is none. Where a list isn't closed it tells the line on which that begins, and none where it is. A byte order mark changes
+nothing of what it says.
 The last line is 'N passed, M failed'."""
 import copy
 import functools
@@ -52,6 +53,12 @@ BAD_ITEM = re.compile(r"(?:line \d+: )?bad value (ignore|answer\.reply): (?:igno
 ITEM_FORMS = {"ignore": re.compile(r"(?:[0-9A-Fa-f]{2}|\.\.)+\*?"), "answer.reply": re.compile(r"(?:[0-9A-Fa-f]{2}|\$[0-9A-Fa-f]|\?\?)*")}
 LIST_ITEMS = ("3E80", "22*", "2e..", "62$F", "??", "", "2", "*", "2G", "3E 80", "0x3E", 5, True, 1.5, ["22"], {"a": 1})
 LIST_SETUPS = 100
+# items of a list that isn't closed, and what may stand behind it; items that are no TOML, or lack a comma, in one that is
+OPEN_ITEMS = ('"3E80"', '"22*"', "'[{' # [", '"\\"]" # ]', "[1, 2]", '{ a = "}" }')
+BEHIND_OPEN = ("p2_ms = 25", " pad=true # ]", "[[did]]", "  [[level.row]] # x", "did.id = 1", "")
+BAD_ITEMS = ("22F4..,", "3E*,", "28..,", "[x],", '"3E80" "22*",', '"22*" = 1', "..,")
+OPEN_SETUPS = 200
+STILL_OPEN = "; the list or table that begins on line {} is still open\n"
 MARK = b"\xef\xbb\xbf"
 UNPLACED = "the look at the setup found another first"
 SEVERAL = 400
@@ -387,6 +394,22 @@ def is_item(key, item):
     return isinstance(item, str) and ITEM_FORMS[key].fullmatch(item) is not None
 
 
+def compare_open(folder, chance):
+    """Whether `check` tells since which line a list isn't closed, and tells none where it is, and an item is at fault."""
+    path, before = os.path.join(folder, "setup.toml"), chance.choices(IDLE, k=chance.randint(0, 3))
+    rows = [f" {it}" for it in chance.choices(OPEN_ITEMS, k=chance.randint(0, 4))]
+    last = len(rows) - chance.randint(0, 1)
+    rows = [row.replace(" #", ", #") if "#" in row else f"{row}," for row in rows[:last]] + rows[last:]
+    for is_open in (True, False):
+        lines = [*before, "ignore = [", *rows, *chance.choices(IDLE, k=chance.randint(0, 2))]
+        lines += [chance.choice(BEHIND_OPEN)] if is_open else [chance.choice(BAD_ITEMS), "]", "p2_ms = 25"]
+        with open(path, "w", encoding="utf-8") as file:
+            file.write("\n".join(lines) + "\n")
+        check = ran("check", path)
+        told_open = check.stdout.endswith(STILL_OPEN.format(len(before) + 1)) if is_open else "still open" not in check.stdout
+        told(check.returncode == 2 and told_open, "a list that is open" if is_open else "a list that is closed", f"{lines}: {check.stdout!r}")
+
+
 def random_row(chance):
     pattern = "".join(chance.choice(ITEMS) for _ in range(chance.randint(1, 3))) + chance.choice(("", "*"))
     if chance.random() < 0.4:
@@ -478,6 +501,8 @@ def main():
             compare_rows(folder, [random_row(chance) for _ in range(4)])
         for _ in range(LIST_SETUPS):
             compare_items(folder, {key: chance.choices(LIST_ITEMS, k=chance.randint(1, 6)) for key in ITEM_FORMS})
+        for _ in range(OPEN_SETUPS):
+            compare_open(folder, chance)
         for name, before in BEFORE.items():
             if not before.startswith(MARK):
                 compare_marked(folder, name, before + Written(GOOD, chance).data())

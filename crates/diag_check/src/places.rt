@@ -41,7 +41,7 @@ impl Places {
             heads: BTreeMap::new(alloc),
         };
         places.part(1)?;
-        if !text.contains("\"\"\"") && !text.contains("'''") {
+        if !has_long_quotes(text) {
             places.read(text.strip_prefix('\u{FEFF}').unwrap_or(text))?;
         }
         Ok(places)
@@ -203,6 +203,28 @@ enum Within {
     Quotes(u8),
     /// Behind the backslash in a text.
     Escape,
+}
+
+/// Whether a text may have strings of several lines.
+fn has_long_quotes(text: &str) -> bool {
+    text.contains("\"\"\"") || text.contains("'''")
+}
+
+/// The line, from 1, on which the list or the table begins that is still open behind a text; none where nothing is, or the
+/// text may have strings of several lines.
+pub fn open_since(text: &str) -> Option<usize> {
+    if has_long_quotes(text) {
+        return None;
+    }
+    let mut open = 0;
+    let mut since = 0;
+    for (index, line) in text.split('\n').enumerate() {
+        if open == 0 {
+            since = index.saturating_add(1);
+        }
+        open = open_behind(open, line);
+    }
+    (open > 0).then_some(since)
 }
 
 /// How many brackets are open behind a line, where so many are before it.

@@ -2,7 +2,7 @@
 
 use crate::finding::{Finding, MOST_SHOWN, is_hex, is_plain};
 use crate::keys::{KEYS, Kind, Table};
-use crate::places::path_of;
+use crate::places::{open_since, path_of};
 use diag_config::ConfigFault;
 use std::alloc::{AllocError, Global};
 use std::fmt;
@@ -64,6 +64,8 @@ enum Hint<'a> {
     LineEnd,
     /// A key that stands twice in the table of this list; of the whole unit its path is empty.
     Twice(&'static str),
+    /// A list or a table that begins on this line, from 1, and is still open.
+    Open(usize),
     /// What a key wants, and what stands behind it.
     Value(Kind, &'a str),
     Nothing,
@@ -115,12 +117,25 @@ fn in_line<'a>(above: &str, head: &str, line: &'a str, message: &str) -> Hint<'a
     } else if message.starts_with("duplicate key") {
         Hint::Twice(open_table(above).map_or("", |table| table.path()))
     } else if !head.contains('=') {
-        Hint::Nothing
+        match open_since(above) {
+            Some(line) if is_no_item(said) => Hint::Open(line),
+            _ => Hint::Nothing,
+        }
     } else if message.starts_with("unexpected key or value") {
         Hint::Behind
     } else {
         value_hint(above, line)
     }
+}
+
+/// Whether a line has nothing, begins with a key, or is the head of a table, and so is no item of a list.
+fn is_no_item(said: &str) -> bool {
+    let has_key = match said.split_once('=') {
+        Some((name, _)) => name.split('.').all(|part| is_plain(part.trim())),
+        None => false,
+    };
+    let head = said.trim().strip_prefix('[').unwrap_or("");
+    said.trim().is_empty() || has_key || Table::of(path_of(head)).is_some()
 }
 
 /// The quotes that a word processor makes.
@@ -201,6 +216,10 @@ impl fmt::Display for Hint<'_> {
             Hint::Twice(path) => write!(
                 f,
                 "; it stands above, too: [[{path}]] begins the next one"
+            ),
+            Hint::Open(line) => write!(
+                f,
+                "; the list or table that begins on line {line} is still open"
             ),
             Hint::Value(kind, value) => write_wanted(f, *kind, value),
             Hint::Nothing => Ok(()),
