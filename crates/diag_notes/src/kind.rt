@@ -128,37 +128,44 @@ fn in_its_form(line: &str) -> &'static str {
 
 /// What is wrong behind the stamp of a line.
 fn behind_stamp(rest: &str) -> &'static str {
-    if !rest.contains('#') {
-        "it has no identifier and #, as 7E0#021003"
-    } else if rest.contains('\t') {
+    let Some((before, _)) = rest.split_once('#') else {
+        return "it has no identifier and #, as 7E0#021003";
+    };
+    if rest.contains('\t') {
         "its parts stand apart by a tab, where a space is wanted"
-    } else if rest.contains(" #") {
+    } else if before.ends_with(' ') {
         "a space stands before #: the identifier and # stand together, as in 7E0#021003"
     } else if !rest.starts_with(' ') {
         "behind its stamp a space is wanted, as in (1.000000) can0 7E0#021003"
-    } else if !has_interface(rest) {
-        "it has no interface: its name stands before the identifier, as in (1.000000) can0 7E0#021003"
-    } else if rest.contains("#0x") {
+    } else {
+        match interface_and_frame(rest) {
+            Some((_, frame)) if frame.contains('#') => in_frame(frame),
+            _ => {
+                "it has no interface: its name stands before the identifier, as in (1.000000) can0 7E0#021003"
+            }
+        }
+    }
+}
+
+/// What is wrong with a frame and what stands behind it.
+fn in_frame(frame: &str) -> &'static str {
+    let (frame, _) = frame.split_once(' ').unwrap_or((frame, ""));
+    let (id, data) = frame.split_once('#').unwrap_or((frame, ""));
+    if data.contains("0x") {
         "bytes have no 0x: two hex digits each behind #, as 7E0#021003"
-    } else if rest.contains("0x") {
+    } else if id.contains("0x") {
         "an identifier has no 0x: 3 hex digits up to 7FF, or 8, as 7E0#021003"
-    } else if rest.contains("##") {
+    } else if data.starts_with('#') {
         "behind ## stand a digit of flags and the bytes of a frame of CAN FD, two hex digits each: 0 to 8, 12, 16, 20, 24, 32, 48 or 64"
-    } else if has_many_digits(rest) {
+    } else if has_many_digits(data) {
         "a frame of more than 8 bytes is one of CAN FD: ## and a digit of flags stand before its bytes, as 7E0##1"
     } else {
         "behind # stand 0 to 8 bytes, two hex digits each; an identifier has 3 hex digits up to 7FF, or 8"
     }
 }
 
-/// Whether `#` stands behind the word that is the interface's.
-fn has_interface(rest: &str) -> bool {
-    interface_and_frame(rest).is_some_and(|(_, frame)| frame.contains('#'))
-}
-
 /// Whether more hex digits stand behind `#` than a classic frame has.
-fn has_many_digits(rest: &str) -> bool {
-    let (_, data) = rest.split_once('#').unwrap_or(("", ""));
+fn has_many_digits(data: &str) -> bool {
     data.bytes().take_while(|c| c.is_ascii_hexdigit()).count() > 16
 }
 
