@@ -261,6 +261,13 @@ def try_unreadable():
             noted(f"standard input that isn't open: {words[0]}", 7, "cannot read file 1", [note], words, stdin=closed)
 
 
+def try_raw_word():
+    """A word that isn't UTF-8."""
+    with open(f"{TOP}/runs/cli/usage/stderr") as file:
+        usage = file.read().strip().removeprefix("uds_play: ")
+    noted("a word that isn't UTF-8", 1, usage, ["a word on the command line isn't UTF-8"], ["check", b"caf\xe9.toml"], stdin=subprocess.DEVNULL)
+
+
 def try_limits():
     """Files beyond a limit, of which the note tells it."""
     with tempfile.TemporaryDirectory() as folder:
@@ -309,6 +316,7 @@ def main():
     try_terminal()
     try_folder()
     try_unreadable()
+    try_raw_word()
     try_limits()
     try_journal()
     return told.ended()

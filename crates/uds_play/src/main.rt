@@ -36,11 +36,12 @@ use diag_setup::Setup;
 use diag_stored::{CONFIG, LOG_A, LOG_B};
 use diag_text::{ReadFault, RunFault, read_whole, write_text, write_whole};
 use last::Known;
-use notes::{FileKind, Notes, note_usage};
+use notes::{FileKind, Notes, note, note_usage};
 use progress::Progress;
 use source::Source;
 use standard::{Hearing, PIECES, Record, StandardBench, read_all};
 use std::alloc::{AllocError, Global};
+use std::env::{Env, FillError};
 use std::io::{ErrorKind, IsTerminal, Read, Write};
 use std::process::ExitCode;
 use std::rt::{Clock, Files};
@@ -54,7 +55,7 @@ const MOST_SETUP: usize = 1_048_576;
 fn main(rt: HostRuntime) -> ExitCode {
     match env::args(&rt) {
         Err(e) if e.kind() == ErrorKind::OutOfMemory => refuse(&rt, &Refusal::Memory),
-        Err(_) => refuse(&rt, &Refusal::Usage(String::new(rt.alloc()))),
+        Err(_) => refuse_raw(&rt),
         Ok(words) => match words.collect::<Vec<String>>(rt.alloc()) {
             Err(AllocError) => refuse(&rt, &Refusal::Memory),
             Ok(words) => {
@@ -125,6 +126,28 @@ fn refuse(rt: &(impl Print + Eprint), refusal: &Refusal) -> ExitCode {
             ExitCode::from(4)
         }
     }
+}
+
+/// Prints that the words were refused, of which one isn't UTF-8, and says the status.
+fn refuse_raw(rt: &(impl Print + Eprint + Env + AllocGlobal)) -> ExitCode {
+    let status = refuse(rt, &Refusal::Usage(String::new(rt.alloc())));
+    if !is_quiet_raw(rt) {
+        note(rt, "a word on the command line isn't UTF-8");
+    }
+    status
+}
+
+/// Whether notes are left out, by words of which one isn't UTF-8.
+fn is_quiet_raw(rt: &impl Env) -> bool {
+    let mut word = [0u8; 8];
+    for number in 1..usize::MAX {
+        match rt.arg(number, &mut word) {
+            Ok(count) if word.get(..count) == Some(b"--quiet".as_slice()) => return true,
+            Err(FillError::NotPresent) => return false,
+            Ok(_) | Err(FillError::TooLong) => {}
+        }
+    }
+    false
 }
 
 /// Where a terminal shows what is written.
