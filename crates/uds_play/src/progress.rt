@@ -55,6 +55,7 @@ impl Progress {
             if self.line.load(Ordering::SeqCst) == 0 {
                 return;
             }
+            thread::yield_now();
         }
     }
 
