@@ -257,25 +257,27 @@ fn push_lengthened(list: &mut Vec<LongSent>, at: u64, id: CanId, bytes: FrameByt
     ensures len { vec_len list.new ≡ vec_len list.old + 1 }
     ensures capacity { vec_capacity list.new ≡ vec_capacity list.old }
 {
-    let index = list.len();
+    match bytes.as_slice().as_array::<8>() {
+        Some(eight) => push_bytes(list, at, id, eight),
+        None => push_bytes(list, at, id, bytes.as_slice()),
+    }
+}
+
+/// Adds a frame of these bytes. (Inlined, the eight that most have are moved together, to where they stay.)
+#[inline(always)]
+fn push_bytes(list: &mut Vec<LongSent>, at: u64, id: CanId, bytes: &[u8])
+    requires room { vec_len list.old < vec_capacity list.old }
+    requires fits { length bytes.now ≤ 64 }
+    ensures items { list.new.items ≡ list.old.items
+        ++ record { at = at; frame = record { id = id; bytes = bytes.now } } ∷ [] }
+    ensures len { vec_len list.new ≡ vec_len list.old + 1 }
+    ensures capacity { vec_capacity list.new ≡ vec_capacity list.old }
+{
     list.push_reserved(LongSent {
         at,
         id,
-        bytes: FdBytes::new(),
+        bytes: FdBytes::from_slice(bytes),
     });
-    append_short(&mut list[index].bytes, bytes.as_slice());
-}
-
-/// Adds the bytes of a classic frame. (Most are eight, which are moved together.)
-#[inline(always)]
-fn append_short(long: &mut FdBytes, bytes: &[u8])
-    requires { length long.old + length bytes.now ≤ 64 }
-    ensures { long.new ≡ long.old ++ bytes.now }
-{
-    match bytes.as_array::<8>() {
-        Some(eight) => long.append(eight),
-        None => long.append(bytes),
-    }
 }
 
 /// Adds the next frame that is due of a link, which goes at this time.
