@@ -19,6 +19,9 @@ const FIXED_FUNCTIONAL: (u8, u8) = (0x18, 0xDB);
 /// The address of a tester in these (ISO 15765-4).
 const TESTER: u8 = 0xF1;
 
+/// The greatest identifier of 11 bits.
+const GREATEST_OF_11_BITS: u32 = 0x7FF;
+
 /// What decimal numbers of three digits look like an identifier of diagnostics in hex.
 const LEAST_LOOK: u32 = 600;
 
@@ -57,10 +60,8 @@ impl Look<'_> {
     /// The identifiers of a tester.
     pub fn tester(&mut self, tester: &Tree, row: Row) -> Result<(), AllocError> {
         let is_extended = is_extended(tester);
-        if !is_extended {
-            self.decimal(tester, "request", row)?;
-            self.decimal(tester, "response", row)?;
-            self.decimal(tester, "functional", row)?;
+        for name in &["request", "response", "functional"] {
+            self.number(tester, name, row)?;
         }
         let ids = (number_at(tester, "request"), number_at(tester, "response"));
         match ids {
@@ -69,6 +70,22 @@ impl Look<'_> {
                 self.fixed_source(tester, request, row)
             }
             (Some(request), Some(response)) => self.pair(request, response, row),
+            _ => Ok(()),
+        }
+    }
+
+    /// An identifier that looks like one of the other base, or of the other kind.
+    fn number(&mut self, tester: &Tree, name: &str, row: Row) -> Result<(), AllocError> {
+        if !is_extended(tester) {
+            return self.decimal(tester, name, row);
+        }
+        match number_at(tester, name) {
+            Some(id) if id <= GREATEST_OF_11_BITS => {
+                let text = format!(in self.alloc;
+                    "{name}{row} is 0x{id:X}, of 29 bits by extended = true; of 11 bits?"
+                )?;
+                self.remark(row.key(name), text)
+            }
             _ => Ok(()),
         }
     }
