@@ -67,6 +67,18 @@ impl Line<'_> {
         }
     }
 
+    /// Whether it is the first frame of an answer, or else of a request: an answer's first byte has its bit 6 set (ISO
+    /// 14229-1:2013, table 2).
+    fn begins_answer(&self) -> Option<bool> {
+        let first = match self.digits() {
+            [b'0', b'0', _, _, first, ..] | [b'1', _, _, _, first, ..] => first,
+            [b'0', _, first, ..] => first,
+            _ => return None,
+        };
+        let digit = char::from(*first).to_digit(16)?;
+        self.begins().then_some(digit & 4 != 0)
+    }
+
     /// Whether it is a remote frame, which has no bytes.
     fn is_remote(&self) -> bool {
         self.rest.starts_with(b"R")
@@ -96,6 +108,12 @@ struct Frames {
     data: u64,
     /// With the identifier of the unit's answers.
     responses: u64,
+    /// With the identifier of requests: those that begin answers.
+    answers: u64,
+    /// With the identifier of requests: those that begin requests.
+    asks: u64,
+    /// With the identifier of the unit's answers: those that begin requests.
+    asks_back: u64,
 }
 
 impl Frames {
@@ -105,9 +123,13 @@ impl Frames {
         begins: 0,
         data: 0,
         responses: 0,
+        answers: 0,
+        asks: 0,
+        asks_back: 0,
     };
 
     fn count(&mut self, side: &Side<'_>, line: &Line<'_>) {
+        self.tell_apart(side, line);
         self.all = self.all.saturating_add(1);
         if line.id == side.response {
             self.responses = self.responses.saturating_add(1);
@@ -119,6 +141,22 @@ impl Frames {
             self.begins = self.begins.saturating_add(u64::from(line.begins()));
             self.data = self.data.saturating_add(u64::from(!line.is_remote()));
         }
+    }
+
+    /// Counts requests and answers.
+    fn tell_apart(&mut self, side: &Side<'_>, line: &Line<'_>) {
+        let count = match line.begins_answer() {
+            Some(true) if line.id == side.request => &mut self.answers,
+            Some(false) if line.id == side.request => &mut self.asks,
+            Some(false) if line.id == side.response => &mut self.asks_back,
+            _ => return,
+        };
+        *count = count.saturating_add(1);
+    }
+
+    /// Whether the tester's frames answer, and the unit's ask.
+    fn are_exchanged(&self) -> bool {
+        self.answers > 0 && self.asks == 0 && self.asks_back > 0
     }
 }
 
@@ -423,6 +461,13 @@ impl<'a> Recording<'a> {
         if frames.requests > 0 && frames.data == 0 {
             let told = format!(in self.alloc;
                 "only remote frames of {name} were seen{part}: they have no bytes, and are passed over"
+            )?;
+            return Ok(Some(told));
+        }
+        if frames.are_exchanged() {
+            let response = side.response;
+            let told = format!(in self.alloc;
+                "the recording asks by {response:0digits$X} and answers by {request:0digits$X}{part}: are request and response of {name} exchanged?"
             )?;
             return Ok(Some(told));
         }
