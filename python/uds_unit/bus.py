@@ -44,7 +44,7 @@ class _Stopped(Exception):
     """The thread is to end."""
 
 
-class _Line:
+class _Queue:
     """What goes to one tester, in the unit's order. A ConsecutiveFrame waits here until its separation time is over."""
 
     def __init__(self, request: tuple[int, bool]) -> None:
@@ -82,8 +82,8 @@ class UnitBus:
 
     The unit's time is the machine's monotonic clock. Where a ConsecutiveFrame goes late, those behind it to the same tester go
     later, too: two are never nearer to each other than their separation time. FlowControl that comes while one waits is passed
-    over, as any in the middle of a block, and is waited for from when the last one went. A frame that the bus doesn't take, as
-    where the adapter's queue is full, is given to it again for a second; then the bus is at fault.
+    over, as any in the middle of a block. N_Bs runs from when the last frame went. A frame that the bus doesn't take, as where
+    the adapter's queue is full, is given to it again for a second; then the bus is at fault.
 
     A fault of the bus ends the thread. From then on what asks or sets something of the unit raises it; `journal` doesn't.
     A signal's handler may call it, too, in the middle of a call; where it stops it, that call may raise ClosedFault.
@@ -99,7 +99,7 @@ class UnitBus:
         self._stopped = threading.Event()
         self._thread: threading.Thread | None = None
         self._begun = time.monotonic()
-        self._lines = {name: _Line(request) for name, request in self._unit.requests.items()}
+        self._queues = {name: _Queue(request) for name, request in self._unit.requests.items()}
         self._told = ""
         self._closed = False
         self.fault: BaseException | None = None
@@ -233,37 +233,37 @@ class UnitBus:
         with self._held():
             now, due = self._now(), self._unit.due
             if due is not None and due <= now:
-                self._line_up(self._unit.advance(now), by_time=True)
+                self._enqueue(self._unit.advance(now), by_time=True)
             self._send()
             if heard is not None and self._is_taken(heard) and (data := carried(heard)) is not None:
-                self._line_up(self._unit.frame(now, heard.arbitration_id, data, extended=heard.is_extended_id), by_time=False)
+                self._enqueue(self._unit.frame(now, heard.arbitration_id, data, extended=heard.is_extended_id), by_time=False)
                 self._send()
 
     def _until_next(self) -> float:
         """The seconds until a frame falls due or may go, at most PATIENCE."""
-        dues = (self._unit.due, *(line.due for line in self._lines.values()))
+        dues = (self._unit.due, *(queue.due for queue in self._queues.values()))
         due = min((it for it in dues if it is not None), default=inf)
         return min(max(due - self._now(), 0.0), PATIENCE)
 
-    def _line_up(self, frames: list[Frame], by_time: bool) -> None:
+    def _enqueue(self, frames: list[Frame], by_time: bool) -> None:
         for frame in frames:
-            self._lines[frame.tester].add(frame, by_time)
+            self._queues[frame.tester].add(frame, by_time)
 
     def _send(self) -> None:
         """Sends what may go."""
-        for line in self._lines.values():
-            while (due := line.due) is not None and due <= self._now():
-                self._send_first(line)
+        for queue in self._queues.values():
+            while (due := queue.due) is not None and due <= self._now():
+                self._send_first(queue)
 
-    def _send_first(self, line: _Line) -> None:
+    def _send_first(self, queue: _Queue) -> None:
         """Sends the first frame that waits for a tester. The unit takes it to have gone at its time, and N_Bs to run since."""
-        frame, _ = line.waiting.popleft()
+        frame, _ = queue.waiting.popleft()
         self._put(self._message(frame))
         now = self._now()
-        line.mark(frame, now)
+        queue.mark(frame, now)
         if now - frame.time > LATE and kind(frame.data) in (FIRST, CONSECUTIVE):
-            id, extended = line.request
-            self._line_up(self._unit.frame(now, id, WAIT, extended=extended), by_time=True)
+            id, extended = queue.request
+            self._enqueue(self._unit.frame(now, id, WAIT, extended=extended), by_time=True)
 
     def _put(self, message: can.Message) -> None:
         """Gives a message to the bus, again and again where it doesn't take it."""
@@ -296,6 +296,6 @@ class UnitBus:
         if not 0 <= message.arbitration_id <= (LOW_29 if message.is_extended_id else LOW_11):
             return False
         id = (message.arbitration_id, message.is_extended_id)
-        if kind(message.data) == FLOW and any(line.waiting and line.request == id for line in self._lines.values()):
+        if kind(message.data) == FLOW and any(queue.waiting and queue.request == id for queue in self._queues.values()):
             return False
         return not message.is_fd or id in self._unit.fd_requests
