@@ -3,6 +3,9 @@
 # What is installed is in out/ where it was built of these sources, else in release/ (tools/release.sh --files).
 PREFIX ?= /usr/local
 PYTHON ?= python3
+ifneq ($(filter-out /%,$(firstword $(PREFIX))),)
+$(error PREFIX must be an absolute path, and not $(PREFIX))
+endif
 # where Python looks for packages under PREFIX (Debian's does so in dist-packages), else where it would; nowhere without Python
 PYTHONDIR ?= $(shell $(PYTHON) -c 'import sys, sysconfig; at = [it for it in sys.path if it.startswith("$(PREFIX)".rstrip("/") + "/lib/") and it.endswith("-packages")]; print((at + [sysconfig.get_path("purelib", "posix_prefix", {"base": "$(PREFIX)"})])[0])' 2> /dev/null)
 # PREFIX as the file for pkg-config tells it, and as sed is told so: pkg-config wants a blank behind a backslash
@@ -12,6 +15,8 @@ BLANK = $(NONE) $(NONE)
 TOLD_PREFIX = $(subst $(BLANK),\\$(BLANK),$(subst |,\|,$(subst &,\&,$(PCPREFIX))))
 ROOT = $(DESTDIR)$(PREFIX)
 PACKAGE = $(DESTDIR)$(PYTHONDIR)/uds_unit
+# whether Python finds the package in this folder
+FINDS = import importlib.util, os, sys; at = importlib.util.find_spec("uds_unit"); sys.exit(at is None or not os.path.samefile(os.path.dirname(at.origin), sys.argv[1]))
 
 all:
 	@echo 'make install [PREFIX=/usr/local] installs; ./uds_play proves and builds; ./check proves and tests all'
@@ -35,6 +40,8 @@ install:
 	$(PYTHON) python/wheel_of_unit.py '$(DESTDIR)$(PYTHONDIR)' || echo 'without what tells pip and pytest of the Python package: that wants Python 3.11 or later'
 	@test -n '$(DESTDIR)' || ldconfig 2> /dev/null || true
 	@echo 'installed under $(ROOT)'
+	@if [ -z '$(DESTDIR)' ] && [ -n '$(PYTHONDIR)' ] && ! $(PYTHON) -c '$(FINDS)' '$(PACKAGE)' 2> /dev/null; then \
+	  echo '$(PYTHON) does not look for packages in $(PYTHONDIR): set PYTHONPATH to that'; fi
 
 uninstall:
 	rm -f '$(ROOT)/bin/uds_play' '$(ROOT)/lib/libuds_unit.so.2' '$(ROOT)/lib/libuds_unit.so' '$(ROOT)/include/uds_unit.h'

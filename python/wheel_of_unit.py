@@ -1,5 +1,6 @@
 """Makes the wheel for `pip install ./python` (PEP 517), with the shared library that was built of the sources beside it, or
-that release/ has of them. It wants neither a compiler nor another package, and so no network.
+that release/ has of them; and that for `pip install -e ./python` (PEP 660), by which Python finds the package here. It wants
+neither a compiler nor another package, and so no network.
 
     python/wheel_of_unit.py FOLDER     puts beside a package that `make install` put into the folder what tells pip and pytest of it"""
 import base64
@@ -51,29 +52,38 @@ def info(about: dict[str, Any]) -> str:
     return f"{about['name']}-{about['version']}.dist-info"
 
 
-def files(about: dict[str, Any]) -> dict[str, bytes]:
-    """What the wheel has, by its path there."""
-    package = [it for it in sorted((HERE / "uds_unit").iterdir()) if it.suffix == ".py" or it.name == "py.typed"]
+def package() -> dict[str, bytes]:
+    """The package's files, with the library, by their paths in the wheel."""
+    sources = [it for it in sorted((HERE / "uds_unit").iterdir()) if it.suffix == ".py" or it.name == "py.typed"]
+    return {**{f"uds_unit/{it.name}": it.read_bytes() for it in sources}, f"uds_unit/{LIBRARY}": library().read_bytes()}
+
+
+def write_wheel(folder: str, files: dict[str, bytes]) -> str:
+    """Writes a wheel with these files, and what tells of the package; its name."""
+    about = project()
     told = info(about)
-    return {
-        **{f"uds_unit/{it.name}": it.read_bytes() for it in package},
-        f"uds_unit/{LIBRARY}": library().read_bytes(),
+    has = {
+        **files,
         f"{told}/METADATA": metadata(about).encode(),
         f"{told}/WHEEL": f"Wheel-Version: 1.0\nGenerator: wheel_of_unit\nRoot-Is-Purelib: false\nTag: {TAG}\n".encode(),
         f"{told}/entry_points.txt": entry_points(about).encode(),
     }
-
-
-def build_wheel(wheel_directory: str, config_settings: Any = None, metadata_directory: Any = None) -> str:
-    about = project()
-    has, record = files(about), f"{info(about)}/RECORD"
+    record = f"{told}/RECORD"
     sums = {path: base64.urlsafe_b64encode(hashlib.sha256(text).digest()).decode().rstrip("=") for path, text in has.items()}
     lines = [f"{path},sha256={sums[path]},{len(text)}\n" for path, text in has.items()] + [f"{record},,\n"]
     name = f"{about['name']}-{about['version']}-{TAG}.whl"
-    with zipfile.ZipFile(Path(wheel_directory) / name, "w", zipfile.ZIP_DEFLATED) as wheel:
+    with zipfile.ZipFile(Path(folder) / name, "w", zipfile.ZIP_DEFLATED) as wheel:
         for path, text in {**has, record: "".join(lines).encode()}.items():
             wheel.writestr(zipfile.ZipInfo(path, FIRST), text, zipfile.ZIP_DEFLATED)
     return name
+
+
+def build_wheel(wheel_directory: str, config_settings: Any = None, metadata_directory: Any = None) -> str:
+    return write_wheel(wheel_directory, package())
+
+
+def build_editable(wheel_directory: str, config_settings: Any = None, metadata_directory: Any = None) -> str:
+    return write_wheel(wheel_directory, {"uds_unit.pth": f"{HERE}\n".encode()})
 
 
 def build_sdist(sdist_directory: str, config_settings: Any = None) -> str:

@@ -623,11 +623,12 @@ class OfTheParts(unittest.TestCase):
 
     def test_words_of_rows(self) -> None:
         rows = [
-            Row("2743", ["7F2770"]), Row("1905*", ["7F1994"]), Row("1003", [""]), Row("22F190", ["62F19041", "", "62F19041"]),
+            Row("2761", ["7F2770"]), Row("2743", ["7F2770"]), Row("1905*", ["7F1994"]), Row("1003", [""]), Row("22F190", ["62F19041", "", "62F19041"]),
             Row("14FFFFFF", ["7F1478"]), Row("14FFFFFF", ["7F1478", "54"]), Row("14FFFFFF"),
         ]
         want = [
             "SecurityAccess requestSeed, uploadDownloadNotAccepted",
+            "SecurityAccess, uploadDownloadNotAccepted",
             "ReadDTCInformation reportDTCStoredDataByRecordNumber, refused",
             "DiagnosticSessionControl extendedDiagnosticSession, no answer",
             "ReadDataByIdentifier VIN, at times no answer",

@@ -184,6 +184,10 @@ would_build() {
   ran "${without_kit[@]}" tools/build_library.py --how
   holds "$1: the library would be built $2" 0 "$2"
 }
+ran "${without_kit[@]}" tools/build_library.py --help
+holds "build_library.py --help builds nothing" 0 'usage: build_library.py'
+ran "${without_kit[@]}" tools/build_library.py more
+holds "and a word that it doesn't know is refused" 2 'unrecognized arguments: more'
 would_build "with nothing in out/" 'by rt lib'
 for crate in "$copy"/crates/*; do mkdir -p "$crate/out/rlib/${crate##*/}.rlib"; done
 would_build "with crates that rt ci left" 'as rt ci left them'
@@ -217,7 +221,7 @@ assert [(each.group, each.value) for each in it.entry_points if each.group == 'p
 # make install, from release/
 if [ -e "$room/bin/make" ]; then
   ran "${without_kit[@]}" make install PREFIX="$room/usr" PYTHONDIR="$room/usr/python"
-  holds "make install" 0
+  holds "make install, and where Python doesn't look for the package a line says so" 0 "python3 does not look for packages in $room/usr/python"
   ran "$room/usr/bin/uds_play" --version
   holds "the installed program runs" 0 'uds_play '
   runs_installed usr env PYTHONPATH="$room/usr/python" python3
@@ -255,8 +259,13 @@ int main(void) { struct uds_unit unit = UDS_UNIT_INIT; return uds_unit_close(&un
   ran ls "$odd/python"
   if [ "$(grep -c dist-info "$room/out")" = 1 ]; then good "one version is told"; else bad "one version is told"; fi
   ran "${without_kit[@]}" PYTHONPATH="$room/slash/lib/its-packages" make install PREFIX="$room/slash/"
+  if [ "$status" = 0 ] && ! grep -qF 'does not look' "$room/out"; then good "make install where Python looks"; else bad "make install where Python looks"; fi
   ran ls "$room/slash/lib/its-packages/uds_unit"
   holds "with a slash behind it the package is where Python looks" 0 'libuds_unit.so'
+  for word in install uninstall; do
+    ran "${without_kit[@]}" make $word PREFIX=usr
+    holds "make $word refuses a relative path" 2 'PREFIX must be an absolute path, and not usr'
+  done
   ran "${without_kit[@]}" tools/release.sh --tarball
   holds "the tarball is made" 0 'linux-x86_64.tar.gz'
   first=$(sha256sum "$copy"/out/*.tar.gz 2> /dev/null | cut -d' ' -f1)

@@ -62,7 +62,7 @@ def whole(path):
 def names(_):
     told(uds_names.table() in whole(f"{TOP}/docs/VIEW.md"), "the names in docs/VIEW.md are those of the tool")
     for sid, sub, want in [
-        (0x27, 0x42, "sendKey"), (0x27, 0x43, "requestSeed"), (0x27, 0xFE, "sendKey"), (0x27, 0x7F, ""),
+        (0x27, 0x42, "sendKey"), (0x27, 0x43, ""), (0x27, 0x5E, ""), (0x27, 0x5F, "requestSeed"), (0x27, 0x60, "sendKey"), (0x27, 0xFE, "sendKey"), (0x27, 0x7F, ""),
         (0x19, 0x05, "reportDTCStoredDataByRecordNumber"), (0x19, 0x0A, "reportSupportedDTC"), (0x11, 0x06, ""),
     ]:
         told(uds_names.sub_name(sid, sub) == want, f"the name of {sid:02X} {sub:02X}: {want}", uds_names.sub_name(sid, sub))

@@ -6,8 +6,8 @@
   uds_unit alone over them and builds it: minutes. Else `rt lib` does that, which proves each crate below as well where
   `rt check` didn't. (Both ways should make the same bytes: docs/DECISIONS.md.)
 - The kit's linker makes the shared library of the static one and of the kit's C code for memory.
-Where another run of it is building, it waits for that.
-Usage: tools/build_library.py [--how]     with --how it only tells which of these it would do"""
+Where another run of it is building, it waits for that."""
+import argparse
 import fcntl
 import os
 import signal
@@ -144,7 +144,9 @@ def build_alone():
 
 
 def main():
-    if sys.argv[1:] == ["--how"]:
+    words = argparse.ArgumentParser(description=__doc__, formatter_class=argparse.RawDescriptionHelpFormatter)
+    words.add_argument("--how", action="store_true", help="only tells which of these it would do")
+    if words.parse_args().how:
         print(how())
         return 0
     # (then what it runs is ended, too)

@@ -5,27 +5,39 @@ import importlib.util
 import io
 import itertools
 import os
+import resource
 import shutil
 import signal
 import subprocess
 import sys
 import tempfile
+import threading
 import time
 import unittest
 from collections.abc import Iterator
 from math import nextafter
 from pathlib import Path
+from types import SimpleNamespace
 from typing import Any
 from unittest import mock
+from xml.etree import ElementTree
 
 from uds_unit import ClosedFault
 
 SETUP = Path(__file__).resolve().parent.parent.parent / "demo/setup.toml"
 PACKAGE = str(Path(__file__).resolve().parent.parent)
+# what the program tells, and what ends it
+ON_THE_BUS = "uds_unit: the unit is on the bus\n"
+SIGNALS = (signal.SIGINT, signal.SIGTERM, signal.SIGHUP)
 
 
 def has(*names: str) -> bool:
     return all(importlib.util.find_spec(name) is not None for name in names)
+
+
+def not_taken(number: int, _: object) -> None:
+    """What is done at a signal, where the program doesn't take it."""
+    raise AssertionError(f"{signal.Signals(number).name} isn't taken")
 
 
 class ByHand:
@@ -66,7 +78,7 @@ def by_hand(setup: bytes) -> Iterator[ByHand]:
     from uds_unit.bus import UnitBus
 
     hand = ByHand()
-    with mock.patch("uds_unit.bus.time", hand), mock.patch("threading.Thread"), UnitBus(hand, setup) as hand.unit:
+    with mock.patch("uds_unit.bus.time", hand), mock.patch("threading.Thread"), UnitBus(hand, setup, journal=True) as hand.unit:
         yield hand
 
 
@@ -110,6 +122,14 @@ class BusTests(unittest.TestCase):
                 items[0xF195] = b"\x06\x07"
         self.unit.stop()
         self.assertIn(" 1 P 22F195 62F1950405\n", self.unit.journal())
+
+    def test_behind_a_request_without_an_answer(self) -> None:
+        """The answer to one behind it tells that it was taken."""
+        for request, session in 10 * (("021083", "extended"), ("021081", "default")):
+            self.ask(request)
+            self.ask("023E00")
+            self.assertEqual(self.hear(), "7E8#027E00CCCCCCCCCC")
+            self.assertEqual(self.unit.session, session)
 
     def test_separation_time(self) -> None:
         self.ask("0322F190")
@@ -221,6 +241,19 @@ class BusTests(unittest.TestCase):
                 self.assertEqual(hand.turn(now), sent)
             self.assertEqual(hand.turn(0.0708), "7E8#25 7E8#02 7A8#23")
 
+    def test_others_traffic(self) -> None:
+        """It makes no entries of the journal, and what is due goes on time."""
+        with by_hand(SETUP.read_bytes()) as hand:
+            hand.take(0.0, "0322F190")
+            hand.take(0.001, "30000A")
+            for now in range(2, 11):
+                self.assertEqual(hand.take(now / 1000, "023E00", 0x7E1), "")
+            self.assertEqual(hand.take(0.011, "023E00", 0x18DA10F1), "7E8#22")
+            for now in range(12, 100):
+                self.assertEqual(hand.take(now / 1000, "023E00", 0x7E1), "")
+            times = [line for line in hand.unit.journal().splitlines() if " 1 T " in line]
+            self.assertEqual(times, ["1 1 T 1", "11 1 T 10", "99 1 T 88"])
+
     def test_flow_control_while_a_frame_waits(self) -> None:
         """To the tester it is in the middle of a block. The first frame of the next block owes no separation time."""
         with by_hand(SETUP.read_bytes()) as hand:
@@ -304,6 +337,34 @@ class BusTests(unittest.TestCase):
             self.assertEqual([self.hear() for _ in range(2)], ["7E8#2130303030303030", "7E8#2230303030303030"])
         self.assertIsNone(self.unit.fault)
 
+    def test_stopped_while_a_frame_waits_for_room(self) -> None:
+        """That is no fault of the bus."""
+        import can
+
+        with mock.patch.object(self.far, "send", side_effect=can.CanOperationError("no room")) as send:
+            self.ask("021003")
+            while not send.called:
+                time.sleep(0.001)
+            self.unit.stop()
+        self.assertIsNone(self.unit.fault)
+        self.assertIn(" 1 P 1003 5003003201F4\n", self.unit.journal())
+
+    def test_what_else_ends_the_thread(self) -> None:
+        with mock.patch.object(self.far, "recv", side_effect=SystemExit("no driver")):
+            self.unit._thread.join()
+        for call in (lambda: self.unit.session, self.unit.stop):
+            with self.assertRaisesRegex(SystemExit, "no driver"):
+                call()
+        self.unit.fault = None
+
+    def test_a_bus_that_stops_its_unit(self) -> None:
+        with mock.patch.object(self.far, "send", lambda _: self.unit.stop()):
+            self.ask("021003")
+            self.unit._thread.join()
+        with self.assertRaisesRegex(RuntimeError, "stop was called in the unit's own thread"):
+            self.unit.stop()
+        self.unit.fault = None
+
     def test_a_bus_at_fault(self) -> None:
         import can
 
@@ -333,7 +394,8 @@ class BusTests(unittest.TestCase):
         self.unit.fault = None
 
     def test_others_frames(self) -> None:
-        self.near.send(self.Message(arbitration_id=0x18DA00F1, data=b"\x02\x10\x03", is_extended_id=True))
+        for id in (0x18DA00F1, 0x7E0):
+            self.near.send(self.Message(arbitration_id=id, data=b"\x02\x10\x03", is_extended_id=True))
         self.near.send(self.Message(arbitration_id=0x7E0, is_extended_id=False, is_remote_frame=True, dlc=3))
         self.ask("023E00", 0x7A0)
         self.assertEqual(self.hear(), "7A8#027E00CCCCCCCCCC")
@@ -386,53 +448,161 @@ class BusTests(unittest.TestCase):
 
 @unittest.skipUnless(has("can"), "python-can isn't installed")
 class ProgramTests(unittest.TestCase):
-    def run_program(self, *words: str) -> subprocess.CompletedProcess[str]:
-        return subprocess.run([sys.executable, "-m", "uds_unit", *words], cwd=PACKAGE, capture_output=True, text=True, timeout=60)
+    def serve(self, script: Iterator[None], *words: str, setup: object = SETUP, handler: Any = not_taken) -> tuple[int, str]:
+        """The program in this process, with this handler of signals before: its status, and what it tells. Where it waits it
+        takes a step of the script."""
+        from uds_unit import __main__ as program
+
+        for number in SIGNALS:
+            self.addCleanup(signal.signal, number, signal.signal(number, handler))
+        clock = SimpleNamespace(monotonic=time.monotonic, sleep=lambda _: next(script))
+        with mock.patch.object(program, "time", clock), contextlib.redirect_stderr(io.StringIO()) as told:
+            status = program.main(["--interface", "virtual", "--channel", self.id(), *words, str(setup)])
+        return status, told.getvalue()
+
+    def refused(self, *words: str, setup: object = SETUP) -> tuple[int, str]:
+        """The same, where it doesn't come to wait."""
+        return self.serve(iter(()), *words, setup=setup)
+
+    @contextlib.contextmanager
+    def other_end(self) -> Iterator[Any]:
+        """The tester's end of the bus of `serve`, and a path for its journal."""
+        import can
+
+        with tempfile.TemporaryDirectory() as room, can.Bus(interface="virtual", channel=self.id()) as bus:
+            ask = can.Message(arbitration_id=0x7E0, data=bytes.fromhex("021003"), is_extended_id=False)
+            yield SimpleNamespace(ask=lambda: bus.send(ask), hear=lambda: bus.recv(2), path=Path(room, "j"))
 
     def test_it_runs(self) -> None:
         with tempfile.TemporaryDirectory() as room:
-            ran = self.run_program("--interface", "virtual", "--channel", "x", "--seconds", "0.3", "--journal", f"{room}/j", str(SETUP))
-            self.assertEqual((ran.returncode, ran.stdout, ran.stderr), (0, "", ""))
-            self.assertTrue(Path(f"{room}/j").read_text().startswith("diag-journal 2\n"))
-            # a file that is there stays as it was, be it a journal or the setup itself
-            for path in (Path(f"{room}/j"), Path(shutil.copy(SETUP, room))):
-                before = path.read_bytes()
-                ran = self.run_program("--interface", "virtual", "--channel", "x", "--seconds", "0", "--journal", str(path), str(SETUP))
-                self.assertEqual((ran.returncode, ran.stdout, path.read_bytes()), (1, "", before))
-                self.assertEqual(ran.stderr, f"uds_unit: --journal {path}: there is such a file already, and it isn't overwritten\n")
-            # a journal that can't be written is told at once, and not behind the run
-            ran = self.run_program("--interface", "virtual", "--channel", "x", "--journal", f"{room}/none/j", str(SETUP))
-            self.assertEqual((ran.returncode, "No such file" in ran.stderr), (1, True), ran.stderr)
+            path = Path(room, "j")
+            words = ["--interface", "virtual", "--channel", "x", "--seconds", "0.3", "--journal", str(path), str(SETUP)]
+            ran = subprocess.run([sys.executable, "-m", "uds_unit", *words], cwd=PACKAGE, capture_output=True, text=True, timeout=60)
+            self.assertEqual((ran.returncode, ran.stdout, ran.stderr), (0, "", ON_THE_BUS))
+            self.assertTrue(path.read_text().startswith("diag-journal 2\n"))
 
-    def test_sigterm(self) -> None:
-        # (the signal comes while it waits)
-        code = (
-            "import os, signal, sys; from uds_unit import __main__ as it;"
-            "it.time.sleep = lambda _: os.kill(os.getpid(), signal.SIGTERM); sys.exit(it.main(sys.argv[1:]))"
-        )
+    def test_a_journal_that_is_refused(self) -> None:
+        """That is told at once, and not behind the run. A file that is there stays as it was, be it the setup itself."""
         with tempfile.TemporaryDirectory() as room:
-            words = ["--interface", "virtual", "--channel", "x", "--journal", f"{room}/j", str(SETUP)]
-            ran = subprocess.run([sys.executable, "-c", code, *words], cwd=PACKAGE, capture_output=True, text=True, timeout=60)
-            self.assertEqual((ran.returncode, ran.stdout, ran.stderr), (0, "", ""))
-            self.assertTrue(Path(f"{room}/j").read_text().startswith("diag-journal 2\n"))
+            path = shutil.copy(SETUP, room)
+            fault = f"uds_unit: --journal {path}: there is such a file already, and it isn't overwritten\n"
+            self.assertEqual(self.refused("--journal", path), (1, fault))
+            self.assertEqual(Path(path).read_bytes(), SETUP.read_bytes())
+            fault = f"uds_unit: {room}/none/j: No such file or directory\n"
+            self.assertEqual(self.refused("--journal", f"{room}/none/j"), (1, fault))
 
-    def test_signals_while_it_ends(self) -> None:
-        code = """if True:
-            import os, signal, sys
-            from uds_unit import __main__ as it, bus
+    def test_signals(self) -> None:
+        """Those that come while it ends are passed over."""
+        from uds_unit.bus import UnitBus
 
-            def stop(self, stop=bus.UnitBus.stop):
-                for number in 2 * (signal.SIGTERM, signal.SIGINT):
-                    os.kill(os.getpid(), number)
-                stop(self)
+        def script() -> Iterator[None]:
+            signal.raise_signal(first)
+            yield
 
-            bus.UnitBus.stop = stop
-            it.time.sleep = lambda _: os.kill(os.getpid(), int(sys.argv.pop()))
-            sys.exit(it.main(sys.argv[1:-1]))"""
-        words = [sys.executable, "-c", code, "--interface", "virtual", "--channel", "x", str(SETUP)]
-        for first in (signal.SIGTERM, signal.SIGINT):
-            ran = subprocess.run([*words, str(int(first))], cwd=PACKAGE, capture_output=True, text=True, timeout=60)
-            self.assertEqual((ran.returncode, ran.stdout, ran.stderr), (0, "", ""))
+        def stop_and_signal(unit: UnitBus) -> None:
+            for number in SIGNALS:
+                signal.raise_signal(number)
+            stop(unit)
+
+        stop = UnitBus.stop
+        for first in SIGNALS:
+            with self.other_end() as tester, mock.patch.object(UnitBus, "stop", stop_and_signal):
+                self.assertEqual(self.serve(script(), "--journal", str(tester.path)), (0, ON_THE_BUS))
+                self.assertTrue(tester.path.read_text().startswith("diag-journal 2\n"))
+
+    def test_signals_that_were_passed_over_before(self) -> None:
+        """As behind nohup: it sets no handler."""
+
+        def script() -> Iterator[None]:
+            while True:
+                self.assertEqual({signal.getsignal(it) for it in SIGNALS}, {signal.SIG_IGN})
+                yield
+
+        self.assertEqual(self.serve(script(), "--seconds", "0.01", handler=signal.SIG_IGN), (0, ON_THE_BUS))
+
+    def test_a_driver_that_does_not_return(self) -> None:
+        """A signal ends the program all the same, and the journal is written before."""
+        from can.interfaces.virtual import VirtualBus
+
+        from uds_unit.bus import UnitBus
+
+        def send_and_hang(bus: VirtualBus, message: Any) -> None:
+            send(bus, message)
+            if message.arbitration_id == 0x7E8:
+                returns.wait(10)
+
+        def script() -> Iterator[None]:
+            tester.ask()
+            tester.hear()
+            yield signal.raise_signal(signal.SIGINT)
+
+        def stop_and_signal(unit: UnitBus) -> None:
+            signal.raise_signal(signal.SIGTERM)
+            threading.Timer(0.15, os.kill, (os.getpid(), signal.SIGTERM)).start()
+            stop(unit)
+
+        def end(status: int) -> None:
+            self.assertIn(" 1 P 1003 5003003201F4\n", tester.path.read_text())
+            returns.set()
+            raise SystemExit(status)
+
+        send, stop, returns = VirtualBus.send, UnitBus.stop, threading.Event()
+        with (
+            self.other_end() as tester,
+            mock.patch.object(VirtualBus, "send", send_and_hang),
+            mock.patch.object(UnitBus, "stop", stop_and_signal),
+            mock.patch("uds_unit.__main__.GRACE", 0.1),
+            mock.patch("os._exit", end),
+            self.assertRaisesRegex(SystemExit, "1"),
+        ):
+            self.serve(script(), "--journal", str(tester.path))
+
+    def test_the_journal_is_written_meanwhile(self) -> None:
+        """A run that is killed leaves it. No time passes by that."""
+
+        def script() -> Iterator[None]:
+            for _ in range(3):
+                yield time.sleep(0.02)
+            self.assertEqual(tester.path.read_text(), "diag-journal 2\n")
+            tester.ask()
+            yield tester.hear()
+            self.assertIn(" 1 P 1003 5003003201F4\n", tester.path.read_text())
+            yield signal.raise_signal(signal.SIGTERM)
+
+        with self.other_end() as tester, mock.patch("uds_unit.__main__.EVERY", 0):
+            self.assertEqual(self.serve(script(), "--journal", str(tester.path)), (0, ON_THE_BUS))
+            self.assertEqual(tester.path.read_text().count(" P "), 1)
+
+    def test_a_journal_that_can_not_be_written(self) -> None:
+        def script() -> Iterator[None]:
+            resource.setrlimit(resource.RLIMIT_FSIZE, (20, most))
+            while True:
+                tester.ask()
+                yield tester.hear()
+
+        soft, most = resource.getrlimit(resource.RLIMIT_FSIZE)
+        self.addCleanup(resource.setrlimit, resource.RLIMIT_FSIZE, (soft, most))
+        with self.other_end() as tester, mock.patch("uds_unit.__main__.EVERY", 0):
+            told = f"{ON_THE_BUS}uds_unit: --journal {tester.path}: File too large\n"
+            self.assertEqual(self.serve(script(), "--journal", str(tester.path)), (1, told))
+
+    def test_python_can_that_can_not_be_imported(self) -> None:
+        fault = "uds_unit: python-can can't be imported: no libcan (pip install python-can, or apt-get install python3-can)\n"
+        for code, ended in (("raise ImportError('no libcan')", (1, fault)), ("signal.raise_signal(signal.SIGINT)", (0, ""))):
+            with tempfile.TemporaryDirectory() as room, mock.patch.dict(sys.modules), mock.patch.object(sys, "path", [room, *sys.path]):
+                Path(room, "can.py").write_text(f"import signal\n{code}\n")
+                sys.modules.pop("can", None)
+                self.assertEqual(self.refused(), ended)
+
+    def test_its_name_and_version(self) -> None:
+        from uds_unit import __version__
+        from uds_unit.__main__ import main
+
+        for called, name in (("/it/uds_unit/__main__.py", "python3 -m uds_unit"), ("/it/bin/uds_unit", "uds_unit")):
+            for word, text in (("--help", f"usage: {name} [-h] "), ("--version", f"uds_unit {__version__}\n")):
+                with mock.patch("sys.argv", [called]), contextlib.redirect_stdout(io.StringIO()) as told, self.assertRaises(SystemExit):
+                    main([word])
+                self.assertTrue(told.getvalue().startswith(text), told.getvalue())
 
     def opened(self, setup: bytes, fault: Exception, *words: str) -> tuple[int, str, bool]:
         """Where the bus has this fault: the program's status, its line, and whether it opened the bus for CAN FD."""
@@ -465,25 +635,25 @@ class ProgramTests(unittest.TestCase):
         from uds_unit import MemoryFault
         from uds_unit.__main__ import main
 
-        with tempfile.NamedTemporaryFile("w", suffix=".toml") as it:
-            it.write("s3_ms = 1")
-            it.flush()
-            ran = self.run_program("--interface", "virtual", "--channel", "x", it.name)
-            self.assertEqual((ran.returncode, ran.stderr), (2, "uds_unit: config: empty\n"))
-        ran = self.run_program("--interface", "no_such", "--channel", "x", str(SETUP))
-        self.assertEqual(ran.returncode, 1)
-        ran = self.run_program("--interface", "virtual", "--channel", "x", "no_such.toml")
-        self.assertEqual((ran.returncode, ran.stderr), (1, "uds_unit: no_such.toml: No such file or directory\n"))
-        ran = self.run_program("--interface", "virtual", "--channel", "x", "")
-        self.assertEqual((ran.returncode, ran.stderr), (1, "uds_unit: '': No such file or directory\n"))
+        with tempfile.TemporaryDirectory() as room:
+            path = Path(room, "it.toml")
+            path.write_text("s3_ms = 1")
+            fault = f"uds_unit: config: empty\nuds_unit: note: uds_play check {path} tells the place of each fault\n"
+            self.assertEqual(self.refused(setup=path), (2, fault))
+            # (to that command it is no fault)
+            path.write_text(f"x = 23:59:60\n{SETUP.read_text()}")
+            status, line = self.refused(setup=path)
+            self.assertEqual((status, line.count("\n")), (2, 1), line)
+        self.assertEqual(self.refused("--interface", "no_such")[0], 1)
+        self.assertEqual(self.refused(setup="no_such.toml"), (1, "uds_unit: no_such.toml: No such file or directory\n"))
+        self.assertEqual(self.refused(setup=""), (1, "uds_unit: '': No such file or directory\n"))
         # (2 would tell of the setup)
-        with mock.patch("uds_unit.__main__._serve", side_effect=MemoryFault("memory")), mock.patch("signal.signal"):
-            with contextlib.redirect_stderr(io.StringIO()) as text:
-                self.assertEqual(main(["--interface", "virtual", "--channel", "x", str(SETUP)]), 1)
-        self.assertEqual(text.getvalue(), "uds_unit: memory\n")
+        with mock.patch("uds_unit.__main__._serve", side_effect=MemoryFault("memory")):
+            self.assertEqual(self.refused(), (1, "uds_unit: memory\n"))
         for seconds in ("-1", "nan", "x"):
-            ran = self.run_program("--interface", "virtual", "--channel", "x", "--seconds", seconds, str(SETUP))
-            self.assertEqual((ran.returncode, "argument --seconds: " in ran.stderr), (2, True), ran.stderr)
+            with contextlib.redirect_stderr(io.StringIO()) as told, self.assertRaisesRegex(SystemExit, "2"):
+                main(["--interface", "virtual", "--channel", "x", "--seconds", seconds, str(SETUP)])
+            self.assertIn("argument --seconds: ", told.getvalue())
 
 
 TESTS = '''
@@ -508,15 +678,30 @@ class FixtureTests(unittest.TestCase):
         own = [sys.executable, "-m", "pytest", "-q", "-p", "uds_unit.pytest_plugin", "-p", "no:cacheprovider"]
         return subprocess.run([*own, *words], cwd=PACKAGE, capture_output=True, text=True, timeout=120)
 
-
     def test_fixture(self) -> None:
+        begun = time.monotonic()
         with tempfile.TemporaryDirectory() as room:
             Path(f"{room}/test_it.py").write_text(TESTS)
             Path(f"{room}/pytest.ini").write_text(f"[pytest]\nuds_setup = {SETUP}\n")
-            ran = self.run_pytest(room)
+            # (a test's end doesn't wait for it)
+            Path(f"{room}/conftest.py").write_text("from uds_unit import bus\nbus.PATIENCE = 30\n")
+            ran = self.run_pytest(f"--junit-xml={room}/report.xml", room)
             self.assertIn("1 failed, 1 passed", ran.stdout, ran.stdout + ran.stderr)
-            self.assertIn("journal of the unit", ran.stdout)
-            self.assertIn(" 1 P 1003 5003003201F4", ran.stdout)
+            report = ElementTree.parse(f"{room}/report.xml").find(".//failure").text
+        for text in (ran.stdout, report):
+            self.assertEqual(text.count(" journal of the unit "), 1, text)
+            self.assertIn(" 1 P 1003 5003003201F4", text)
+        self.assertLess(time.monotonic() - begun, 30)
+
+    def test_without_python_can(self) -> None:
+        """The tests fail: were they skipped, nobody would see that nothing is tested."""
+        with tempfile.TemporaryDirectory() as room:
+            Path(f"{room}/test_it.py").write_text("def test_it(uds_unit):\n    pass\n")
+            Path(f"{room}/pytest.ini").write_text(f"[pytest]\nuds_setup = {SETUP}\n")
+            Path(f"{room}/conftest.py").write_text("import sys\nsys.modules['can'] = None\n")
+            ran = self.run_pytest(room)
+        self.assertEqual(ran.returncode, 1, ran.stdout + ran.stderr)
+        self.assertIn("the fixture uds_unit wants python-can: ", ran.stdout)
 
     def test_the_folder_of_the_ini_file(self) -> None:
         with tempfile.TemporaryDirectory() as room:

@@ -81,6 +81,13 @@ class UnitTests(unittest.TestCase):
                     self.assertEqual([it.time for it in unit.frame(time, 0x7E0, PRESENT)], [time])
                     self.assertEqual([it.time for it in unit.frame(nextafter(next, -inf), 0x7E0, PRESENT)], [time])
 
+    def test_the_farthest_moments(self) -> None:
+        for first in (-1e12, 1e12 - 0.01):
+            with Unit(SETUP) as unit:
+                unit.frame(first, 0x7E0, bytes.fromhex("0322F190"))
+                self.assertEqual([it.time for it in unit.frame(first + 0.005, 0x7E0, bytes.fromhex("300005"))], [first + 0.005])
+                self.assertEqual([it.time for it in unit.advance(first + 0.01)], [first + 0.01])
+
     def test_time_goes_on(self) -> None:
         self.unit.advance(1.0)
         self.assertEqual(self.unit.frame(0.5, 0x7E0, bytes.fromhex("023E00"))[0].time, 1.0)
@@ -90,7 +97,7 @@ class UnitTests(unittest.TestCase):
         century = 100 * 365.25 * 86_400
         # the first moment may be any: nothing passes before it
         self.unit.advance(2 * century)
-        for late in (3 * century + 1, 1e18):
+        for late in (3 * century + 1, 1e12):
             with self.assertRaisesRegex(ValueError, "more than 100 years at once"):
                 self.unit.advance(late)
             with self.assertRaisesRegex(ValueError, "more than 100 years at once"):
@@ -124,6 +131,10 @@ class UnitTests(unittest.TestCase):
         for wrong in ("1", None, timedelta(seconds=1)):
             with self.assertRaisesRegex(TypeError, "real number"):
                 self.unit.frame(wrong, 0x7E0, EXTENDED)
+        # (the time of day in milliseconds, microseconds and nanoseconds, and the greatest float)
+        for far in (1.763e12, 1.763e15, -1.763e15, 1_763_800_001_000_000_000, 1e308):
+            with self.assertRaisesRegex(ValueError, "at most 1000000000000 seconds from zero"):
+                self.unit.advance(far)
         for good in (Decimal("1.5"), Fraction(3, 2), 1.5):
             self.assertEqual(self.unit.frame(good, 0x7E0, EXTENDED)[0].time, 1.5)
 
@@ -138,6 +149,13 @@ class UnitTests(unittest.TestCase):
         self.unit.values[numpy.uint16(0xF195)] = numpy.array([4, 5], dtype=numpy.uint8)
         self.unit.codes[numpy.int32(0xC10000)] = numpy.uint8(0x2F)
         self.assertEqual((self.unit.values[numpy.int32(0xF195)], self.unit.codes[0xC10000]), (b"\x04\x05", 0x2F))
+
+    def test_made_twice(self) -> None:
+        """It begins anew, and the first handle is closed."""
+        first = self.unit._handle
+        self.unit.frame(0.0, 0x7E0, EXTENDED)
+        Unit.__init__(self.unit, WIDE)
+        self.assertEqual((first.is_open, self.unit.session, self.unit.testers), (False, "default", ("A", "B")))
 
     def test_it_can_not_be_copied(self) -> None:
         """A copy would free what is the unit's."""
@@ -226,7 +244,7 @@ class UnitTests(unittest.TestCase):
                 values[wrong] = b"\x04\x05"
             with self.assertRaises(KeyError):
                 values[wrong]
-        with self.assertRaisesRegex(ValueError, "another length"):
+        with self.assertRaisesRegex(ValueError, "^the value of 0xF195 has 2 bytes, and not 1$"):
             values[0xF195] = b"\x04"
         with self.assertRaises(TypeError):
             del values[0xF195]
@@ -245,6 +263,19 @@ class UnitTests(unittest.TestCase):
             codes[0xC10000] = 256
         with self.assertRaises(TypeError):
             del codes[0xC10000]
+
+    def test_texts(self) -> None:
+        (frame,) = self.unit.frame(0.0, 0x7E0, PRESENT)
+        self.assertEqual(
+            repr(frame),
+            "Frame(time=0.0, id=0x7E8, data=b'\\x02~\\x00\\xcc\\xcc\\xcc\\xcc\\xcc', tester='workshop', extended=False, fd=False)",
+        )
+        self.assertEqual(eval(repr(frame)), frame)
+        self.assertEqual(repr(self.unit.values), "Values({0xF190: b'00000000000000000', 0xF195: b'\\x02\\x03'})")
+        self.assertEqual(repr(self.unit.codes), "Codes({0x056200: 0x2F, 0xC10000: 0x04})")
+        self.unit.close()
+        texts = [repr(it) for it in (self.unit.values, self.unit.codes)]
+        self.assertEqual(texts, ["<Values: the unit is closed>", "<Codes: the unit is closed>"])
 
     def test_many_codes(self) -> None:
         numbers = [*range(1, 8190, 2), 0xFFFFFE]
@@ -303,6 +334,14 @@ class UnitTests(unittest.TestCase):
                 unit.frame(9.0, 0x7E0, bytes(13))
         self.assertEqual(self.unit.fd_requests, frozenset())
 
+    def test_the_identifiers_that_it_hears(self) -> None:
+        for setup in (SETUP.read_bytes(), b"functional = 0x700\n" + WIDE, LONG):
+            with Unit(setup) as unit:
+                answered = {(id, False) for id in range(0x800) if unit.frame(0.0, id, PRESENT)}
+                wide = (0x7E0, 0x18DA10F1, 0x18DB33F1, 0x18DA10F2)
+                answered |= {(id, True) for id in wide if unit.frame(0.0, id, PRESENT, extended=True)}
+                self.assertEqual(unit.heard, answered)
+
     def test_29_bits(self) -> None:
         with Unit(WIDE) as unit:
             reply = bytes.fromhex("065003003201F4CC")
@@ -350,12 +389,23 @@ class SetupTests(unittest.TestCase):
                 Unit(setup)
             self.assertEqual(str(told.exception), text)
             self.assertIsInstance(told.exception, UnitFault)
+            self.assertFalse(hasattr(told.exception, "__notes__"))
         with self.assertRaises(OSError):
             Unit("no_such_file.toml")
         # (a number is no file that is open)
         for wrong in (0, True, None, bytearray(b"")):
             with self.assertRaisesRegex(TypeError, "expected str, bytes or os.PathLike object"):
                 Unit(wrong)
+
+    def test_a_note_names_the_command_that_tells_the_place(self) -> None:
+        with tempfile.TemporaryDirectory() as room:
+            path = Path(room, "my setup.toml")
+            for text, notes in ((b"s3_ms = 1", [f"uds_play check '{path}' tells the place of each fault"]), (b"x = 23:59:60\n" + WIDE, [])):
+                path.write_bytes(text)
+                for setup in (path, str(path)):
+                    with self.assertRaises(SetupFault) as told:
+                        Unit(setup)
+                    self.assertEqual(getattr(told.exception, "__notes__", []), notes)
 
     def test_too_long(self) -> None:
         most = SETUP.read_bytes().ljust(1_048_576)

@@ -1,7 +1,7 @@
 """A diagnostic server of a control unit: UDS (ISO 14229-1:2013) over ISO-TP (ISO 15765-2:2016) on classic CAN or CAN FD.
 
 `Unit` is the server, to which frames are given with their moments. `uds_unit.bus.UnitBus` is a unit on a bus of python-can,
-`python -m uds_unit` the same as a program, and `uds_unit.pytest_plugin` has fixtures for pytest.
+`python3 -m uds_unit` the same as a program, and `uds_unit.pytest_plugin` has fixtures for pytest.
 
     from uds_unit import Unit
     with Unit("demo/setup.toml") as unit:

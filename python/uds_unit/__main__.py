@@ -1,20 +1,28 @@
-"""A unit on a bus of python-can, as a program: python -m uds_unit --interface socketcan --channel can0 setup.toml"""
+"""A unit on a bus of python-can, as a program: python3 -m uds_unit --interface socketcan --channel can0 setup.toml"""
 import argparse
-import contextlib
 import os
 import signal
 import sys
 import time
-from collections.abc import Iterator
-from typing import TYPE_CHECKING, NoReturn, TextIO
+from io import FileIO
+from math import inf
+from typing import TYPE_CHECKING
 
+from . import __version__
 from .faults import SetupFault, UnitFault
-from .unit import Unit, read_setup
+from .unit import Unit, noting, read_setup
 
 if TYPE_CHECKING:
     import can
 
     from .bus import UnitBus
+
+# what ends the program: Ctrl-C, kill, and a terminal that is closed
+SIGNALS = (signal.SIGINT, signal.SIGTERM, signal.SIGHUP)
+# the seconds in which it may end by itself behind the first
+GRACE = 2.0
+# how many seconds apart the journal's file is written to
+EVERY = 1.0
 
 
 def _seconds(text: str) -> float:
@@ -32,87 +40,133 @@ def _fault_words(fault: Exception) -> str:
     return words if name is None else f"{name or repr(name)}: {words}"
 
 
+def _tell(*texts: str) -> None:
+    """Tells this on standard error."""
+    for text in texts:
+        print(f"uds_unit: {text}", file=sys.stderr)
+
+
 def _arguments() -> argparse.ArgumentParser:
     parser = argparse.ArgumentParser(
-        prog="python -m uds_unit",
-        description="A diagnostic server on a CAN bus, until Ctrl-C or SIGTERM.",
-        epilog="The status is 2 where the words or the setup are at fault, 1 where the bus, a file or the memory is, else 0.",
+        # (else the name by which the console script is called)
+        prog="python3 -m uds_unit" if os.path.basename(sys.argv[0]) == "__main__.py" else None,
+        description="A diagnostic server on a CAN bus, until Ctrl-C or SIGTERM. It says on standard error when it is on the bus.",
+        epilog="Exit status: 2 for wrong arguments or a faulty setup; 1 for a fault of the bus, a file or memory; else 0.",
     )
-    parser.add_argument("--interface", required=True, help="python-can's interface, as socketcan, pcan, vector, kvaser, virtual")
+    parser.add_argument("--version", action="version", version=f"uds_unit {__version__}")
+    parser.add_argument("--interface", required=True, help="python-can's interface, such as virtual, socketcan, pcan or kvaser")
     parser.add_argument("--channel", required=True, help="the channel, as can0 or PCAN_USBBUS1")
     parser.add_argument("--bitrate", type=int, help="the bit rate, where the interface takes one")
     parser.add_argument("--fd", action="store_true", help="opens the bus for CAN FD, even if no tester of the setup talks by it")
     parser.add_argument("--data-bitrate", type=int, help="the bit rate of the bytes of CAN FD, where the interface takes one")
-    parser.add_argument("--journal", metavar="FILE", help="writes the unit's journal at the end, into a new file")
+    parser.add_argument("--journal", metavar="FILE", help="writes the unit's journal into a new file, each second")
     parser.add_argument("--seconds", type=_seconds, help="ends after so many seconds")
     parser.add_argument("setup", help="the setup, a TOML file")
     return parser
 
 
-def _end(*_: object) -> NoReturn:
-    """Ends the program at a signal; those that come while it ends are passed over."""
-    for it in (signal.SIGINT, signal.SIGTERM):
-        signal.signal(it, signal.SIG_IGN)
-    raise KeyboardInterrupt
+class _End:
+    """The end that a signal asks for. KeyboardInterrupt brings it at once, but while the unit serves the program looks for it: so
+    no line of the journal is lost. Further signals are passed over for two seconds. Then one ends the program whatever it
+    does, for the bus's driver may never return."""
+
+    def __init__(self) -> None:
+        self.is_looked_for = False
+        self.asked_at = inf
+
+    def __call__(self, *_: object) -> None:
+        now = time.monotonic()
+        if now >= self.asked_at + GRACE:
+            _tell("the bus's driver doesn't return; ended without it")
+            os._exit(1)
+        if self.asked_at == inf:
+            self.asked_at = now
+            if not self.is_looked_for:
+                raise KeyboardInterrupt
 
 
 def main(words: list[str] | None = None) -> int:
-    """The program; its status is 2 where the setup is at fault, 1 where the bus, a file or the memory is."""
+    """The program; its status is 2 where the arguments or the setup are at fault, 1 where the bus, a file or the memory is."""
     given = _arguments().parse_args(words)
+    end = _End()
+    for number in SIGNALS:
+        # (one that is passed over from the start, as behind nohup or a shell's &, stays so)
+        if signal.getsignal(number) != signal.SIG_IGN:
+            signal.signal(number, end)
     try:
-        import can
-    except ImportError:
-        print("uds_unit: python-can is not installed (pip install python-can, or apt-get install python3-can)", file=sys.stderr)
-        return 1
-    signal.signal(signal.SIGTERM, _end)
-    # (where it is passed over from the start, as behind a shell's &, it stays so)
-    if signal.getsignal(signal.SIGINT) is signal.default_int_handler:
-        signal.signal(signal.SIGINT, _end)
-    try:
-        _serve(given)
+        return _run(given, end)
     except KeyboardInterrupt:
         return 0
+
+
+def _run(given: argparse.Namespace, end: _End) -> int:
+    """Serves, and tells what goes wrong; the program's status."""
+    try:
+        import can
+    except ImportError as fault:
+        _tell(f"python-can can't be imported: {fault} (pip install python-can, or apt-get install python3-can)")
+        return 1
+    try:
+        _serve(given, end)
     except SetupFault as fault:
-        print(f"uds_unit: {fault}", file=sys.stderr)
+        _tell(str(fault), *(f"note: {it}" for it in getattr(fault, "__notes__", ())))
         return 2
     except (UnitFault, can.CanError, OSError, ValueError) as fault:
-        print(f"uds_unit: {_fault_words(fault)}", file=sys.stderr)
+        _tell(_fault_words(fault))
         return 1
     return 0
 
 
-def _serve(given: argparse.Namespace) -> None:
+def _serve(given: argparse.Namespace, end: _End) -> None:
     from .bus import UnitBus
 
-    setup = read_setup(given.setup)
-    with Unit(setup) as unit:
-        by_fd = given.fd or bool(unit.fd_requests)
-    with _new_file(given.journal) as file, _open_bus(given, by_fd) as bus:
-        unit_bus = UnitBus(bus, setup, journal=file is not None)
-        try:
-            with unit_bus:
-                _wait(unit_bus, given.seconds)
-        finally:
-            if file is not None:
-                file.write(unit_bus.journal())
+    with noting(given.setup):
+        setup = read_setup(given.setup)
+        with Unit(setup) as unit:
+            by_fd = given.fd or bool(unit.fd_requests)
+    with _open_bus(given, by_fd) as bus:
+        end.is_looked_for = True
+        unit_bus = UnitBus(bus, setup, journal=given.journal is not None)
+        with _new_file(given.journal) as file:
+            journal = _Journal(file, unit_bus)
+            try:
+                with unit_bus:
+                    _tell("the unit is on the bus")
+                    _wait(unit_bus, journal, end, given.seconds)
+            finally:
+                journal.write()
 
 
-@contextlib.contextmanager
-def _new_file(path: str | None) -> Iterator[TextIO | None]:
-    """The file of the journal, where one is wanted; removed where nothing was written to it."""
+def _new_file(path: str | None) -> FileIO:
+    """The file of the journal; where none is wanted one that keeps nothing."""
     if path is None:
-        yield None
-        return
+        return open(os.devnull, "wb", buffering=0)
     try:
-        file = open(path, "x", encoding="ascii")
+        return open(path, "xb", buffering=0)
     except FileExistsError:
         raise FileExistsError(f"--journal {path}: there is such a file already, and it isn't overwritten") from None
-    with file:
+
+
+class _Journal:
+    """The journal of a unit in a file. It is written piece by piece, so that a run which is killed leaves it."""
+
+    def __init__(self, file: FileIO, unit: "UnitBus") -> None:
+        self._file = file
+        self._unit = unit
+        # how many pieces were taken, and the bytes of them that aren't written yet
+        self._taken = 0
+        self._rest = b""
+
+    def write(self) -> None:
+        """Writes what the journal has more."""
+        pieces = self._unit._journal_so_far()
+        self._rest += "".join(pieces[self._taken :]).encode()
+        self._taken = len(pieces)
         try:
-            yield file
-        finally:
-            if file.tell() == 0:
-                os.remove(path)
+            while self._rest:
+                self._rest = self._rest[self._file.write(self._rest) :]
+        except OSError as fault:
+            raise OSError(fault.errno, fault.strerror, f"--journal {self._file.name!s}") from None
 
 
 def _open_bus(given: argparse.Namespace, by_fd: bool) -> "can.BusABC":
@@ -131,10 +185,16 @@ def _open_bus(given: argparse.Namespace, by_fd: bool) -> "can.BusABC":
         raise can.CanInitializationError(f"--interface {given.interface}: {type(fault).__name__}: {fault} ({hint})") from fault
 
 
-def _wait(unit: "UnitBus", seconds: float | None) -> None:
-    end = None if seconds is None else time.monotonic() + seconds
-    while unit.fault is None and (end is None or time.monotonic() < end):
+def _wait(unit: "UnitBus", journal: _Journal, end: _End, seconds: float | None) -> None:
+    """Waits for the end, and writes the journal meanwhile; also at the end, for the unit's thread may not stop."""
+    until = inf if seconds is None else time.monotonic() + seconds
+    next_write = -inf
+    while unit.fault is None and end.asked_at == inf and (now := time.monotonic()) < until:
+        if now >= next_write:
+            journal.write()
+            next_write = now + EVERY
         time.sleep(0.05)
+    journal.write()
 
 
 if __name__ == "__main__":

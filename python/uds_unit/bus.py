@@ -11,7 +11,7 @@ from typing import Self
 
 import can
 
-from .unit import LOW_11, LOW_29, Frame, Unit
+from .unit import Bytes, Frame, Unit
 
 # the most seconds without a look whether to stop
 PATIENCE = 0.05
@@ -76,17 +76,21 @@ class _Queue:
 
 
 class UnitBus:
-    """A unit of a setup on a bus, in a thread of its own from `start` (or `with`) to `stop`; without `stop` it serves on, also
-    where nobody has it any more. The bus stays the caller's, but while the thread runs nobody else reads from it: a Notifier, as
-    any tester, wants a bus of its own on the channel.
+    """A unit on a bus of python-can, in its own thread from `start` (or `with`) to `stop`. Without `stop` the thread goes on
+    even if no variable refers to the object any more. The bus stays the caller's, but while the thread runs nobody else reads
+    from it: a Notifier, as any tester, wants a bus of its own on the channel. A forked process has no such thread: don't use the
+    object there.
+
+    The unit takes frames in order: behind a request without an answer send `3E00` and wait for its answer.
 
     The unit's time is the machine's monotonic clock. Where a ConsecutiveFrame goes late, those behind it to the same tester go
     later, too: two are never nearer to each other than their separation time. FlowControl that comes while one waits is passed
-    over, as any in the middle of a block. N_Bs runs from when the last frame went. A frame that the bus doesn't take, as where
-    the adapter's queue is full, is given to it again for a second; then the bus is at fault.
+    over, as any in the middle of a block. N_Bs runs from when the last frame went. If the machine's time of day is set back,
+    python-can's `recv` waits for as much longer: until a frame comes the unit sends nothing.
 
-    A fault of the bus ends the thread. From then on what asks or sets something of the unit raises it; `journal` doesn't.
-    A signal's handler may call it, too, in the middle of a call; where it stops it, that call may raise ClosedFault.
+    If the bus doesn't accept a frame, the unit tries again for one second; then that is a fault of the bus. After a fault every
+    call that reads or sets the unit raises it, except `journal`. A signal's handler may call it, too, in the middle of a call;
+    where it stops it, that call may raise ClosedFault.
 
     `setup` is the path of a setup in TOML, or the bytes of one; SetupFault and OSError as `Unit` raises them.
     """
@@ -100,7 +104,7 @@ class UnitBus:
         self._thread: threading.Thread | None = None
         self._begun = time.monotonic()
         self._queues = {name: _Queue(request) for name, request in self._unit.requests.items()}
-        self._told = ""
+        self._told: list[str] = []
         self._closed = False
         self.fault: BaseException | None = None
         """What ended the thread, if it ended by itself: a fault of the bus."""
@@ -117,12 +121,15 @@ class UnitBus:
 
     def stop(self) -> None:
         """Ends the thread and frees the unit; what was told of it before stays. Raises what ended the thread by itself."""
+        if self._thread is threading.current_thread():
+            raise RuntimeError("stop was called in the unit's own thread, for whose end it waits")
         self._stopped.set()
         if self._thread is not None:
             self._thread.join()
         with self._lock:
             if not self._closed:
-                self._keep_journal()
+                self._catch_up()
+                self._journal_so_far()
                 self._unit.close()
                 self._closed = True
         if self.fault is not None:
@@ -163,7 +170,7 @@ class UnitBus:
             self._look()
             return MappingProxyType(dict(self._unit.values))
 
-    def set_value(self, id: int, value: bytes) -> None:
+    def set_value(self, id: int, value: Bytes) -> None:
         """Sets the value of a data identifier, as the ECU's own software does."""
         with self._lock:
             self._look()
@@ -179,8 +186,8 @@ class UnitBus:
         """The whole journal so far; empty where the unit keeps none."""
         with self._lock:
             if not self._closed:
-                self._keep_journal()
-            return self._told
+                self._catch_up()
+            return "".join(self._journal_so_far())
 
     def _look(self) -> None:
         """Before the unit is asked or set something: raises what ended the thread, and lets the unit's time pass."""
@@ -188,10 +195,12 @@ class UnitBus:
             raise self.fault
         self._catch_up()
 
-    def _keep_journal(self) -> None:
-        self._catch_up()
-        lines = self._unit.journal()
-        self._told += lines
+    def _journal_so_far(self) -> list[str]:
+        """The journal in pieces, up to the last moment that passed. It wants no lock, which the thread has as long as the bus's
+        driver doesn't return."""
+        if not self._closed and (lines := self._unit.journal()):
+            self._told.append(lines)
+        return self._told
 
     def _catch_up(self) -> None:
         """Lets the unit's time pass up to now, where it was started and no frame is due by then: those are the thread's. While
@@ -211,7 +220,7 @@ class UnitBus:
                 self._turn()
         except _Stopped:
             pass
-        except Exception as fault:  # (told by `stop`)
+        except BaseException as fault:  # (told by `stop`)
             self.fault = fault
 
     @contextlib.contextmanager
@@ -266,15 +275,17 @@ class UnitBus:
             self._enqueue(self._unit.frame(now, id, WAIT, extended=extended), by_time=True)
 
     def _put(self, message: can.Message) -> None:
-        """Gives a message to the bus, again and again where it doesn't take it."""
+        """Gives a message to the bus, again and again where it doesn't accept it. _Stopped where the thread is to end before."""
         end = time.monotonic() + N_AS
         while True:
             try:
                 self.bus.send(message)
                 return
             except can.CanOperationError:
-                if self._stopped.is_set() or time.monotonic() >= end:
+                if time.monotonic() >= end:
                     raise
+                if self._stopped.is_set():
+                    raise _Stopped from None
             time.sleep(BREATH)
 
     def _message(self, frame: Frame) -> can.Message:
@@ -289,13 +300,13 @@ class UnitBus:
         )
 
     def _is_taken(self, message: can.Message) -> bool:
-        """Whether the unit is given a message: data of the others, by CAN FD only where a tester asks so by its identifier, and
-        FlowControl only behind a whole block. One with an identifier that no frame has, as a virtual bus may carry it, isn't."""
+        """Whether the unit is given a message: data of the others with an identifier by which a tester asks, by CAN FD only where
+        it asks so, and FlowControl only behind a whole block. All other traffic would fill a journal with time alone."""
         if message.is_error_frame or message.is_remote_frame or not message.is_rx:
             return False
-        if not 0 <= message.arbitration_id <= (LOW_29 if message.is_extended_id else LOW_11):
-            return False
         id = (message.arbitration_id, message.is_extended_id)
+        if id not in self._unit.heard:
+            return False
         if kind(message.data) == FLOW and any(queue.waiting and queue.request == id for queue in self._queues.values()):
             return False
         return not message.is_fd or id in self._unit.fd_requests

@@ -7,7 +7,7 @@ class UnitFault(Exception):
 
 class SetupFault(UnitFault, ValueError):
     """The setup is at fault: the line that the program tells, as `config: empty`; or the library takes it, and Python's reader
-    of TOML doesn't."""
+    of TOML doesn't. Where the setup has a path, a note names the command that tells the fault's place."""
 
 
 class ClosedFault(UnitFault):

@@ -1,15 +1,17 @@
 """The unit: frames and moments go in, frames come out."""
+import contextlib
 import os
+import shlex
 import threading
 from bisect import bisect_left
-from collections.abc import Iterator, MutableMapping
+from collections.abc import Iterable, Iterator, MutableMapping, Sequence
 from ctypes import byref, c_size_t, c_uint16, c_uint64, create_string_buffer
 from math import isfinite
 from operator import index
 from typing import Any, NamedTuple, NoReturn, Self
 
 from . import library, toml
-from .faults import ClosedFault, FrameFault, MemoryFault, SetupFault
+from .faults import ClosedFault, FrameFault, MemoryFault, SetupFault, UnitFault
 from .library import CLOSED, DONE, LENGTH, MEMORY, NO_FRAME, NONE, ROOM, UNKNOWN, Code, Handle, Reply, State
 
 # the names of the sessions (ISO 14229-1:2013, 9.2); any other is told by its number as two hex digits
@@ -21,6 +23,8 @@ LOW_11, LOW_29 = (1 << 11) - 1, (1 << 29) - 1
 FUNCTIONAL, FUNCTIONAL_29 = 0x7DF, 0x18DB33F1
 MILLI, MICRO = 1_000, 1_000_000
 NEVER = 2**64 - 1
+# the most seconds that a moment may be from zero: up to there a float tells milliseconds apart
+MOST_SECONDS = 10**12
 # what stands behind the last DTC: a code above all, and a status
 BEHIND = (1 << 24, 0)
 # the longest step at once, in microseconds: what it takes, time and with a journal memory, is in proportion to it
@@ -28,6 +32,9 @@ CENTURY = 36_525 * 86_400 * MICRO
 # the most bytes of a setup, as the program has it, and the most DTCs
 MOST_SETUP = 1_048_576
 MOST_CODES = 4096
+
+# what is taken as bytes: a bytearray, as messages of python-can have it, a memoryview or a list, too
+Bytes = Sequence[int]
 
 
 class Frame(NamedTuple):
@@ -46,6 +53,10 @@ class Frame(NamedTuple):
     fd: bool = False
     """Whether it is a frame of CAN FD, as all are to a tester with `fd = true`."""
 
+    def __repr__(self) -> str:
+        kinds = f"extended={self.extended}, fd={self.fd}"
+        return f"Frame(time={self.time}, id=0x{self.id:X}, data={self.data!r}, tester={self.tester!r}, {kinds})"
+
 
 def read_setup(setup: str | os.PathLike[str] | bytes) -> bytes:
     """The bytes of a setup: of a path, or these. SetupFault where they are more than the program takes."""
@@ -60,6 +71,18 @@ def read_setup(setup: str | os.PathLike[str] | bytes) -> bytes:
     return config
 
 
+@contextlib.contextmanager
+def noting(setup: str | os.PathLike[str] | bytes) -> Iterator[None]:
+    """Adds to a setup's fault a note with the command that tells its place, where the setup has a path."""
+    try:
+        yield
+    except SetupFault as fault:
+        # (what only Python's reader doesn't take is no fault to that command)
+        if not isinstance(setup, bytes) and fault.__cause__ is None:
+            fault.add_note(f"uds_play check {shlex.quote(os.fsdecode(setup))} tells the place of each fault")
+        raise
+
+
 def _tables(config: bytes) -> dict[str, Any]:
     """The tables of a setup that the library took. SetupFault where Python doesn't."""
     try:
@@ -68,7 +91,7 @@ def _tables(config: bytes) -> dict[str, Any]:
         raise SetupFault(f"config: Python doesn't read this TOML: {fault}") from fault
 
 
-def _raw(data: bytes) -> bytes:
+def _raw(data: Bytes) -> bytes:
     """These bytes. TypeError where an item has more than one, as those of an array may, and of a text."""
     if isinstance(data, str):
         raise TypeError("bytes wanted, and no text: bytes.fromhex makes bytes of hex digits")
@@ -99,13 +122,12 @@ def _requests(setup: dict[str, Any]) -> Iterator[tuple[str, tuple[int, bool]]]:
         yield tester["name"], (tester["request"], tester.get("extended", False))
 
 
-def _fd_requests(setup: dict[str, Any]) -> Iterator[tuple[int, bool]]:
-    for tester in setup["tester"]:
-        if tester.get("fd", False):
-            extended = tester.get("extended", False)
-            functional = FUNCTIONAL_29 if extended else setup.get("functional", FUNCTIONAL)
-            yield tester["request"], extended
-            yield tester.get("functional", functional), extended
+def _heard(setup: dict[str, Any], testers: list[dict[str, Any]]) -> Iterator[tuple[int, bool]]:
+    for tester in testers:
+        extended = tester.get("extended", False)
+        functional = FUNCTIONAL_29 if extended else setup.get("functional", FUNCTIONAL)
+        yield tester["request"], extended
+        yield tester.get("functional", functional), extended
 
 
 class Unit:
@@ -118,10 +140,15 @@ class Unit:
     until `journal()` hands them out.
 
     Raises SetupFault where the setup is at fault, OSError where it or the library can't be read, MemoryFault. A step of
-    time of more than 100 years is a ValueError, and so is a moment that isn't finite.
+    time of more than 100 years is a ValueError, and so is a moment of more than 10^12 seconds, or one that isn't finite.
+
+    To make one takes some 140 KiB of the thread's stack, with a setup of deep tables or arrays up to 2 MiB.
     """
 
     def __init__(self, setup: str | os.PathLike[str] | bytes, *, journal: bool = False) -> None:
+        # (called again, it begins anew)
+        if hasattr(self, "_at"):
+            self.close()
         self._library = library.load()
         # (a signal's handler may call the unit, too, in the middle of a call)
         self._lock = threading.RLock()
@@ -135,20 +162,20 @@ class Unit:
         self._frame, self._next = self._library.uds_unit_frame, self._library.uds_unit_next
         # replies that no call is filling: each takes one of its own, also one in the middle of another
         self._spare: list[tuple[Reply, Any, Any]] = []
-        config = read_setup(setup)
-        text = create_string_buffer(1024)
-        call = self._library.uds_unit_open_with_journal if journal else self._library.uds_unit_open
-        status = call(self._at, config, len(config), text, len(text))
-        if status == MEMORY:
-            raise MemoryFault("memory")
-        if status != DONE:
-            raise SetupFault(text.value.decode().strip().removeprefix("uds_play: "))
+        with noting(setup):
+            config = read_setup(setup)
+            self._open(config, journal)
         tree = _tables(config)
-        self.testers: tuple[str, ...] = tuple(tester["name"] for tester in tree["tester"])
+        testers = tree["tester"]
+        self.testers: tuple[str, ...] = tuple(tester["name"] for tester in testers)
         """The testers' names, in the order of the setup."""
         self.requests: dict[str, tuple[int, bool]] = dict(_requests(tree))
         """The identifier by which each tester asks, and whether it has 29 bits, by the tester's name."""
-        self.fd_requests: frozenset[tuple[int, bool]] = frozenset(_fd_requests(tree))
+        self.heard: frozenset[tuple[int, bool]] = frozenset(_heard(tree, testers))
+        """The identifiers by which testers ask, functional ones too, each with whether it has 29 bits. A frame with any other
+        only lets the time pass."""
+        by_fd = [tester for tester in testers if tester.get("fd", False)]
+        self.fd_requests: frozenset[tuple[int, bool]] = frozenset(_heard(tree, by_fd))
         """The identifiers by which testers ask by CAN FD, each with whether it has 29 bits."""
         self.fd_flags: int = tree.get("fd_flags", 1)
         """The flags of the frames of CAN FD that the unit sends: 1 is bit rate switch, 2 error state indicator."""
@@ -156,6 +183,15 @@ class Unit:
         """The DTCs: a mapping from code to status."""
         self.values: Values = Values(self)
         """The values of the data identifiers: a mapping from identifier to bytes."""
+
+    def _open(self, config: bytes, journal: bool) -> None:
+        text = create_string_buffer(1024)
+        call = self._library.uds_unit_open_with_journal if journal else self._library.uds_unit_open
+        status = call(self._at, config, len(config), text, len(text))
+        if status == MEMORY:
+            raise MemoryFault("memory")
+        if status != DONE:
+            raise SetupFault(text.value.decode().strip().removeprefix("uds_play: "))
 
     def close(self) -> None:
         """Frees the unit. From then on every other call raises ClosedFault, unless its arguments are at fault already; this one
@@ -176,7 +212,7 @@ class Unit:
         # (a copy would have the same handle, and free it)
         raise TypeError("a unit can't be copied or pickled")
 
-    def frame(self, time: float, id: int, data: bytes, *, extended: bool = False) -> list[Frame]:
+    def frame(self, time: float, id: int, data: Bytes, *, extended: bool = False) -> list[Frame]:
         """Takes a frame of the bus at a moment in seconds, and returns the frames that are due up to then, in the bus's order.
         An earlier moment is taken as the latest so far. `id` has 11 bits, or with `extended` 29 bits. The frame has 0 to 8, 12,
         16, 20, 24, 32, 48 or 64 bytes; one of more than 8 is of CAN FD, and only lets the time pass unless it is for a tester
@@ -252,6 +288,8 @@ class Unit:
             raise ValueError(f"a moment is a finite number of seconds, and not {time}")
         # (a number of NumPy's may have few bits)
         time = float(time)
+        if abs(time) > MOST_SECONDS:
+            raise ValueError(f"a moment is at most {MOST_SECONDS} seconds from zero, and not {time}")
         at = round(time * MILLI)
         # (by the quotient as which the unit tells a moment: so that one is itself, and none before it is)
         if at / MILLI > time:
@@ -259,9 +297,7 @@ class Unit:
         at *= 1000
         if self._latest < 0:
             self._ahead = max(-at, 0)
-        at += self._ahead
-        if not 0 <= at <= NEVER:
-            at = 0 if at < 0 else NEVER
+        at = max(at + self._ahead, 0)
         if at - self._latest > CENTURY and self._latest >= 0:
             raise ValueError("more than 100 years at once")
         return at
@@ -310,14 +346,14 @@ class Values(MutableMapping[int, bytes]):
         unit._check(status)
         return value.raw[: length.value]
 
-    def __setitem__(self, id: int, value: bytes) -> None:
+    def __setitem__(self, id: int, value: Bytes) -> None:
         unit, id = self._unit, _in_range(id, 0xFFFF)
         raw = _raw(value)
         status = unit._call("set_value", id, raw, len(raw))
         if status == UNKNOWN:
             raise KeyError(id)
         if status == LENGTH:
-            raise ValueError("another length than the value kept")
+            raise ValueError(f"the value of 0x{id:04X} has {len(self[id])} bytes, and not {len(raw)}")
         unit._check(status)
 
     def __delitem__(self, id: int) -> None:
@@ -333,6 +369,9 @@ class Values(MutableMapping[int, bytes]):
 
     def __len__(self) -> int:
         return sum(1 for _ in self)
+
+    def __repr__(self) -> str:
+        return _told("Values", (f"0x{id:04X}: {value!r}" for id, value in self.items()))
 
 
 class Codes(MutableMapping[int, int]):
@@ -368,6 +407,9 @@ class Codes(MutableMapping[int, int]):
     def __len__(self) -> int:
         return sum(1 for _ in self)
 
+    def __repr__(self) -> str:
+        return _told("Codes", (f"0x{code:06X}: 0x{status:02X}" for code, status in self._rows()))
+
     def _rows(self) -> Iterator[tuple[int, int]]:
         place = 0
         while (row := self._row(place)) != BEHIND:
@@ -382,6 +424,14 @@ class Codes(MutableMapping[int, int]):
             return BEHIND
         self._unit._check(status)
         return row.code, row.status
+
+
+def _told(name: str, items: Iterable[str]) -> str:
+    """The text of a mapping of this name; of a closed unit's that it is closed."""
+    try:
+        return f"{name}({{{', '.join(items)}}})"
+    except UnitFault as fault:
+        return f"<{name}: {fault}>"
 
 
 def _in_range(key: int, most: int) -> int:

@@ -88,8 +88,16 @@ OTHER_SUBS = {
         0x42: "reportWWHOBDDTCByMaskRecord",
         0x55: "reportWWHOBDDTCWithPermanentStatus",
     },
-    0x27: seeds_and_keys(0x43, 0x7E),
-    0x28: {0: "enableRxAndTx", 1: "enableRxAndDisableTx", 2: "disableRxAndEnableTx", 3: "disableRxAndTx"},
+    # (those of ISO 26021-2 and of suppliers; 43 to 5E are reserved)
+    0x27: seeds_and_keys(0x5F, 0x7E),
+    0x28: {
+        0: "enableRxAndTx",
+        1: "enableRxAndDisableTx",
+        2: "disableRxAndEnableTx",
+        3: "disableRxAndTx",
+        4: "enableRxAndDisableTxWithEnhancedAddressInformation",
+        5: "enableRxAndTxWithEnhancedAddressInformation",
+    },
 }
 # the identifiers that ISO 14229-1:2013 gives a name to (annex C.1)
 IDENTIFIERS = {
