@@ -226,9 +226,9 @@ def try_terminal():
         told(status == 3 and "\x1b" not in text, "a terminal shows nothing with --quiet", (text, status))
         text, status = shown(["bus", setup, f"{TOP}/demo/bus.log"])
         told((text, status) == ("", 0), "a terminal shows nothing of a short run", (text, status))
-        # one line of a thousand years, which all testers pass minute by minute
+        # one line of some thousand years, which all testers pass minute by minute
         with open(path, "w", encoding="ascii") as file:
-            file.write("(0.000000) can0 123#\n(50000000000.000000) can0 123#\n")
+            file.write("(0.000000) can0 123#\n(150000000000.000000) can0 123#\n")
         text, status = shown(["verify", setup, path], is_written=True)
         result = "".join(rf"{name} 0 frames agree\r\n" for name in ("workshop", "end_of_line"))
         told(status == 9 and re.match(rf"(\r[^\r\n]*\x1b\[K)+\r\x1b\[K{result}nothing compared\r\n", text), "what is written at the end stands by itself", (text, status))
