@@ -624,17 +624,20 @@ class OfTheParts(unittest.TestCase):
     def test_words_of_rows(self) -> None:
         rows = [
             Row("2761", ["7F2770"]), Row("2743", ["7F2770"]), Row("1905*", ["7F1994"]), Row("1003", [""]), Row("22F190", ["62F19041", "", "62F19041"]),
-            Row("14FFFFFF", ["7F1478"]), Row("14FFFFFF", ["7F1478", "54"]), Row("14FFFFFF"),
+            Row("14FFFFFF", ["7F1478"]), Row("14FFFFFF", ["7F1478", "54"]), Row("14FFFFFF"), Row("3101FF00*", ["7101FF00"]), Row("31....00", [""]), Row("2FF40C03*", ["6FF40C03"]),
         ]
         want = [
             "SecurityAccess requestSeed, uploadDownloadNotAccepted",
             "SecurityAccess, uploadDownloadNotAccepted",
-            "ReadDTCInformation reportDTCStoredDataByRecordNumber, refused",
+            "ReadDTCInformation reportDTCStoredDataByRecordNumber, reservedForSpecificConditionsNotCorrect",
             "DiagnosticSessionControl extendedDiagnosticSession, no answer",
             "ReadDataByIdentifier VIN, at times no answer",
             "ClearDiagnosticInformation, response pending and no answer",
             "ClearDiagnosticInformation, at times response pending and no answer",
             "ClearDiagnosticInformation",
+            "RoutineControl startRoutine eraseMemory",
+            "RoutineControl, no answer",
+            "InputOutputControlByIdentifier OBDDataIdentifier",
         ]
         self.assertEqual(want, [row_words(it) for it in rows])
 

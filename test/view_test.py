@@ -64,11 +64,27 @@ def names(_):
     for sid, sub, want in [
         (0x27, 0x42, "sendKey"), (0x27, 0x43, ""), (0x27, 0x5E, ""), (0x27, 0x5F, "requestSeed"), (0x27, 0x60, "sendKey"), (0x27, 0xFE, "sendKey"), (0x27, 0x7F, ""),
         (0x19, 0x05, "reportDTCStoredDataByRecordNumber"), (0x19, 0x0A, "reportSupportedDTC"), (0x11, 0x06, ""),
+        (0x2C, 0x02, "defineByMemoryAddress"), (0x83, 0x04, "setTimingParametersToGivenValues"), (0x86, 0x85, "startResponseOnEvent"),
+        (0x86, 0x41, "onDTCStatusChange"), (0x87, 0x03, "transitionMode"), (0x87, 0x43, ""),
     ]:
         told(uds_names.sub_name(sid, sub) == want, f"the name of {sid:02X} {sub:02X}: {want}", uds_names.sub_name(sid, sub))
-    for code, want in [(0x22, "conditionsNotCorrect"), (0x73, "wrongBlockSequenceCounter"), (0x94, "negative response")]:
+    for code, want in [
+        (0x22, "conditionsNotCorrect"), (0x73, "wrongBlockSequenceCounter"), (0x23, "negative response"), (0x50, "negative response"), (0x8E, "negative response"), (0xFF, "negative response"),
+        *[(it, "reservedByExtendedDataLinkSecurityDocument") for it in (0x38, 0x4F)], *[(it, "reservedForSpecificConditionsNotCorrect") for it in (0x94, 0xEF)],
+        *[(it, "vehicleManufacturerSpecificConditionsNotCorrect") for it in (0xF0, 0xFE)],
+    ]:
         told(uds_names.negative_name(code) == f"{want} (0x{code:02X})", f"the name of an NRC: {want}", uds_names.negative_name(code))
     told(not uds_names.NEGATIVE.keys() & uds_names.OTHER_NEGATIVE.keys(), "an NRC stands once")
+    for number, want in [
+        (0xF190, "VIN"), (0xF19F, "entityDataIdentifier"), (0xF1A0, ""), (0xF200, "periodicDataIdentifier"), (0xF3FF, "dynamicallyDefinedDataIdentifier"), (0xF40C, "OBDDataIdentifier"),
+        (0xF7FF, "OBDMonitorDataIdentifier"), (0xF8FF, "OBDInfoTypeDataIdentifier"), (0xFA12, "EDRDeviceAddressInformation"), (0xFA18, "EDREntries"), (0xFF00, "UDSVersion"), (0x0100, ""),
+    ]:
+        told(uds_names.identifier_name(number) == want, f"the name of an identifier: {number:04X} {want}", uds_names.identifier_name(number))
+    for number, want in [
+        (0xFF00, "eraseMemory"), (0xFF01, "checkProgrammingDependencies"), (0xFF02, "eraseMirrorMemoryDTCs"), (0xFF03, ""), (0x0200, "vehicleManufacturerSpecific"),
+        (0xDFFF, "vehicleManufacturerSpecific"), (0xE1FF, "OBDTestIds"), (0xE202, "safetySystemRoutineIDs"), (0x00FF, ""), (0xE300, ""), (0xFEFF, "systemSupplierSpecific"),
+    ]:
+        told(uds_names.routine_name(number) == want, f"the name of a routine: {number:04X} {want}", uds_names.routine_name(number))
 
 
 # ---- the texts of the worked examples

@@ -6,7 +6,7 @@ from typing import Iterator, Optional
 
 from learn_bus import FUNCTIONAL, FUNCTIONAL_29, LENGTHS, Pair, Sending
 from learn_judge import Exchange
-from uds_names import IDENTIFIERS, refusal, service_name, sub_name
+from uds_names import OF_MANUFACTURER, identifier_name, refusal, routine_name, service_name, sub_name
 
 # the times of links that a setup has where it says nothing
 N_CR, N_BS, LONGEST = 1000, 1000, 4095
@@ -290,7 +290,7 @@ def did_tables(unit: Unit) -> Iterator[str]:
         if it.changes and not varies and not it.is_written and f"22{number:04X}" in fitted:
             # its row says all that it is read with
             continue
-        name = IDENTIFIERS.get(number, "identifier")
+        name = identifier_name(number) or "identifier"
         yield f"\n{commented(f'{name}: {it.seen.shown()}')}[[did]]\nid = 0x{number:04X}\n"
         yield f'value = "{it.value.hex().upper()}"{as_text(it.value)}\n'
         if it.read_level:
@@ -308,7 +308,8 @@ def code_tables(unit: Unit) -> Iterator[str]:
 
 def routine_tables(unit: Unit) -> Iterator[str]:
     for number, it in sorted(unit.routines.items()):
-        yield f"\n{commented(f'routine: {it.seen.shown()}')}[[routine]]\nid = 0x{number:04X}\n"
+        name = f"routine {routine_words(number)}".rstrip()
+        yield f"\n{commented(f'{name}: {it.seen.shown()}')}[[routine]]\nid = 0x{number:04X}\n"
         yield f"time_ms = {min(between(it.least, it.most, 1), 600000)}\n"
         yield f'result = "{it.result.hex().upper()}"\n' if it.result else ""
         yield f"level = 0x{it.level:02X}\n" if it.level else ""
@@ -344,15 +345,26 @@ def answer_tables(unit: Unit) -> Iterator[str]:
         yield f"after_ms = {it.after}\n" if it.after else ""
 
 
+def routine_words(number: int) -> str:
+    """The name of a routine, where it has one that says more than that it is the manufacturer's."""
+    name = routine_name(number)
+    return "" if name == OF_MANUFACTURER else name
+
+
+def asked_words(pattern: str) -> str:
+    """What a pattern asks for, in words: the service, its sub-function, and its identifier or routine, as far as it has them."""
+    sid, sub, behind = int(pattern[:2], 16), pattern[2:4], pattern[4:8]
+    found = [service_name(sid), sub_name(sid, int(sub, 16)) if sub.isalnum() else ""]
+    if sid in (0x22, 0x24, 0x2E, 0x2F) and len(pattern) >= 6 and pattern[2:6].isalnum():
+        found.append(identifier_name(int(pattern[2:6], 16)))
+    if sid == 0x31 and len(behind) == 4 and behind.isalnum():
+        found.append(routine_words(int(behind, 16)))
+    return " ".join(filter(None, found))
+
+
 def row_words(row: Row) -> str:
-    """What a row is for, in words: the service, its sub-function or its identifier, and a negative response, or that no answer came."""
-    items = [row.request[at : at + 2] for at in range(0, min(len(row.request), 6), 2)]
-    sid = int(items[0], 16)
-    found = service_name(sid)
-    if len(items) > 1 and items[1].isalnum():
-        found += f" {sub_name(sid, int(items[1], 16))}".rstrip()
-    if sid in (0x22, 0x2E) and len(items) > 2 and (items[1] + items[2]).isalnum():
-        found += f" {IDENTIFIERS.get(int(items[1] + items[2], 16), '')}".rstrip()
+    """What a row is for, in words: what is asked, and a negative response, or that no answer came."""
+    sid, found = int(row.request[:2], 16), asked_words(row.request)
     replies = set(row.reply or ())
     for text, words in (("", "no answer"), (f"7F{sid:02X}78", "response pending and no answer")):
         if text in replies:
