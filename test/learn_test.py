@@ -25,6 +25,7 @@ from harness import DEBIAN, TOP, Tally, run_without
 import learn
 import learn_bus
 import live
+from learn_changes import Changes
 from learn_judge import Exchange
 from learn_model import Held, one_round, s3_of, values_in
 from learn_rows import Case, orders_of, pattern_of, shortened, template_of
@@ -998,6 +999,90 @@ class OfRecordings(unittest.TestCase):
             self.assertEqual((0, "", {request: answers}), (plain.status, plain.told, rows_of(plain)))
             other = [(request, it.replace("40C0", "40C7")) for it in answers]
             self.assertEqual((0, 8), (judged("compare", found, asked(*other))[0], judged("compare", found, asked(*other[1:]))[0]))
+
+    def test_what_varies_of_other_services(self) -> None:
+        """Whole values where the service tells them, else the bytes that changed; also seeds beside those of the model. A recording
+        with other values agrees, one with other bytes beside them doesn't."""
+        for asks, rows, spoilt in (
+            ([("010C", "410C0B54"), ("010C", "410C0B55"), ("010D", "410D10")], {"010C": ["410C????"], "010D": ["410D10"]}, ("410C", "410D")),
+            ([("010C0D", "410C0B540D10"), ("010C0D", "410C0B550D11")], {"010C0D": ["410C????0D??"]}, ("0D1", "0E1")),
+            ([("0110", "41100B54"), ("0110", "41100B55"), ("010C", "410C0B54"), ("010C", "410C0B55")], {"010C": ["410C????"], "0110": ["4110????"]}, ("4110", "4111")),
+            ([("2F010000", "6F0100000B54"), ("2F010000", "6F0100000B55"), ("2F01000301", "6F01000301")], {"2F010000": ["6F010000????"], "2F01000301": ["6F01000301"]}, ("03010301", "03010302")),
+            ([("231101", "63AB0B54"), ("231101", "63AB0B55")], {"231101": ["63??????"]}, ("63AB0B55", "7F2331")),
+            ([("1904010203FF", "590401020324010B54"), ("1904010203FF", "590401020324010B55")], {"1904010203FF": ["590401020324010B??"]}, ("020324", "020325")),
+            ([("BA01", "FA01")], {"BA01": ["FA01"]}, ("FA", "FB")),
+            ([("A501", "E5010B54"), ("A501", "E5010B55"), ("A502", "E5020B54"), ("A502", "E5020B55")], {"A501": ["E5010B??"], "A502": ["E5020B??"]}, ("E501", "E502")),
+        ):
+            other = [(ask, re.sub("0B5(.)", lambda it: f"{'A7' if '????' in str(rows) else '0B'}F{it[1]}", sent)) for ask, sent in asks]
+            found = learned_of(asked(("3E00", "7E00"), *asks), "--varies")
+            self.assertEqual((0, "", rows), (found.status, found.told, {it: reply for it, reply in rows_of(found).items() if it != "3E00"}), asks)
+            self.assertEqual(0, judged("compare", found, asked(("3E00", "7E00"), *other))[0], found.text)
+            bad = [(ask, sent.replace(*spoilt)) for ask, sent in asks]
+            self.assertEqual((True, 8), (bad != asks or "03010301" in spoilt, judged("compare", found, asked(("3E00", "7E00"), *[(ask, "7F" + ask[:2] + "22") for ask, _ in bad]))[0]), asks)
+            plain = learned_of(asked(("3E00", "7E00"), *asks))
+            self.assertEqual((0, "", False), (plain.status, plain.told, "??" in plain.text), asks)
+
+    def test_results_that_vary(self) -> None:
+        """Not the byte that says whether the routine runs, where that is the same."""
+        start, runs = ("31010203", "71010203"), ("31030203", "7103020301")
+        asks = [("1003", "5003003201F4"), start, runs, *[("31030203", f"7103020300{it}") for it in ("0B54", "0B55", "0B56")]]
+        found = learned_of(asked(*asks), "--varies")
+        self.assertEqual((0, "", {"31030203": ["7103020301", *["7103020300????"] * 3]}), (found.status, found.told, rows_of(found)))
+
+    def test_seeds_that_vary(self) -> None:
+        """Also where no key came for them, in more than one level, and of levels that no setup has."""
+        seeds = [("1003", "5003003201F4"), ("2703", "67030102"), ("2703", "67030104"), ("2705", "6705010203"), ("2706AA", "6706"), ("1003", "5003003201F4"), ("2705", "6705010204")]
+        others = [("2761", "67610102"), ("2762AABB", "6762"), ("2761", "67610109"), ("2762FFFF", "7F2735"), ("2762AACC", "6762")]
+        found = learned_of(asked(*seeds, *others), "--varies")
+        self.assertEqual((0, ""), (found.status, found.told))
+        self.assertEqual([(3, True, True), (5, True, True)], [(it["sub"], it["varies"], it["any_key"]) for it in found.tree()["level"]])
+        self.assertEqual({"2761": ["6761????"], "2762FFFF": ["7F2735"], "2762*": ["6762"]}, rows_of(found))
+        other = [(ask.replace("62AA", "62A1"), sent.replace("01", "7A") if ask in ("2703", "2705", "2761") else sent) for ask, sent in (*seeds, *others)]
+        self.assertEqual(0, judged("compare", found, asked(*other))[0])
+        plain = rows_of(learned_of(asked(*seeds, *others)))
+        self.assertEqual(([["6762"]] * 2, None), ([plain.get(it) for it in ("2762AABB", "2762AACC")], plain.get("2762*")))
+
+    def test_the_small_unit_where_values_vary(self) -> None:
+        for seed in RUNS[:: 8]:
+            with self.subTest(seed=seed):
+                found = learned_of(recording(seed), "--varies")
+                told = re.sub("learn: the values of .*\n", "", self.doubtful(found))
+                self.assertEqual((0, ""), (found.status, told))
+
+    def test_one_row_for_a_family(self) -> None:
+        """Of requests that differ in their data alone; one that is answered otherwise has its own."""
+        session = ("1003", "5003003201F4")
+        for asks, rows in (
+            ([("3101FF0044000100", "7101FF0010"), ("3101FF00440002", "7101FF0010")], {"3101FF00*": ["7101FF0010"]}),
+            ([("3101FF00440001", "7101FF0010"), ("3101FF00440002", "7F3131"), ("3101FF004403", "7101FF0010")], {"3101FF00440002": ["7F3131"], "3101FF00*": ["7101FF0010"]}),
+            ([("3101FF0044", "7101FF0010"), ("3101FF0045", "7101FF0011")], {"3101FF0044": ["7101FF0010"], "3101FF0045": ["7101FF0011"]}),
+            ([("3101FF00440001", "7101FF0010")], {"3101FF00440001": ["7101FF0010"]}),
+            ([("3101FF0044", "7101FF0010"), ("3101FF0045", "7101FF0010"), ("3101FF004501", "7F3113")], {"3101FF004501": ["7F3113"], "3101FF00*": ["7101FF0010"]}),
+            ([("3101FF00440001", "7101FF00"), ("3101FF00440002", "7101FF00"), ("3101FF01", "7101FF01")], {"3101FF00*": ["7101FF00"]}),
+            ([("3601AABBCC", "7601"), ("3602AABBDD", "7602"), ("3603AABB", "7603")], {"36..*": ["76$1"]}),
+            ([("2F01000301AA", "6F010003"), ("2F01000302", "6F010003"), ("2F01010301", "6F010103")], {"2F010003*": ["6F010003"], "2F01010301": ["6F010103"]}),
+            ([("2F01000301", "6F01000301"), ("2F01000302", "6F01000302")], {"2F010003..": ["6F010003$4"]}),
+            ([("240100", "6401000111"), ("240101", "6401010111"), ("240102", "7F2431"), ("240203", "7F2431")], {"240100": ["6401000111"], "240101": ["6401010111"], "24....": ["7F2431"]}),
+        ):
+            found = learned_of(asked(session, *asks))
+            self.assertEqual((0, "", rows), (found.status, found.told, rows_of(found)), asks)
+
+    def test_places_of_what_changes(self) -> None:
+        def template(*pairs: tuple[str, str]) -> str:
+            changes = Changes()
+            for it in pairs:
+                changes.take(exchange(0, *it))
+            return changes.template(*map(bytes.fromhex, pairs[0]))
+
+        self.assertEqual("410C????0D??", template(("010C0D", "410C0B540D10"), ("010C0D", "410C0B550D11")))
+        self.assertEqual("410C0B0C??0C10", template(("010C0C", "410C0B0C540C10"), ("010C0C", "410C0B0C550C10")), "a PID may stand in several places")
+        self.assertEqual("410C0B540D??", template(("010C0D", "410C0B540D10"), ("010C0D", "410C0B540D11")))
+        self.assertEqual("4103??????", template(("0103", "4103010203"), ("0103", "41030102")), "another length")
+        self.assertEqual("7103020301", template(("31030203", "7103020301"), ("31030203", "710302030001")), "another length says something else")
+        self.assertEqual("67010000", template(("2701", "67010000"), ("2701", "67010102")), "a level that is unlocked")
+        self.assertEqual("5003003201F4", template(("1003", "5003003201F4"), ("1003", "5003001901F4")))
+        self.assertEqual("6702AA", template(("2702", "6702AA"), ("2702", "6702AB")))
+        self.assertEqual("7F2231", template(("220101", "7F2231"), ("220101", "7F2233")))
 
     def test_values_of_one_answer(self) -> None:
         """Where the identifier behind it may stand in several places the lengths aren't known."""

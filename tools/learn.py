@@ -12,7 +12,9 @@ python-can (.db). The testers are the pairs that are given, or those that are fo
 talks by that, and so does one that is given as REQUEST:RESPONSE:fd=NAME. With `--interface` the frames of one interface
 count. With `--varies` an identifier that was read with different values, and seeds that differ, aren't compared, but for
 how long they are; where the same request was refused in between, or the length changed, a row has the answers in turn, with
-`??` for each byte of the value. Without it their values come one after the other, round and round.
+`??` for each byte of the value. So has a row of another service `??` for what changed from one request to an equal one: the
+whole value where its place is known (OBD, 23, 2F, results of routines), else the bytes that changed. Without it the answers
+come one after the other, round and round.
 
 The judge is `compare` of the program that ./uds_play starts: a setup is made, compared with the recording, and what differs
 becomes rows of answers, until nothing differs or nothing gets better. The status is 0 where nothing differs; 8 where

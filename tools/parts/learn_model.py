@@ -297,6 +297,7 @@ def read_seed(unit: Unit, notes: Notes, it: Exchange, turn: int) -> None:
         return
     level = unit.levels.setdefault(sub, Level(Seen()))
     level.seen.at(it.line)
+    level.seeds.add(seed)
     if notes.since is not None:
         notes.delay[1] = min(notes.delay[1] or it.at, it.at - notes.since)
         notes.since, notes.wrong = None, 0
@@ -350,6 +351,8 @@ def learn_model(unit: Unit, exchanges: list[Exchange]) -> None:
         reader = READERS.get(it.request[0])
         if reader:
             reader(unit, notes, it, held, walk.turns)
+        if unit.varies:
+            unit.changes.take(it)
         walk.take(it)
     unit.delay = min(between(notes.delay[0], notes.delay[1], 10000), LONGEST_TIME)
     unit.attempts = min(unit.attempts, 255)

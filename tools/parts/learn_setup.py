@@ -5,6 +5,7 @@ from dataclasses import dataclass, field
 from typing import Iterator, Optional
 
 from learn_bus import FUNCTIONAL, FUNCTIONAL_29, LENGTHS, Pair, Sending
+from learn_changes import Changes
 from learn_judge import Exchange
 from uds_names import OF_MANUFACTURER, identifier_name, refusal, routine_name, service_name, sub_name
 
@@ -82,11 +83,13 @@ class Key:
 
 @dataclass
 class Level:
-    """A level: its seeds and keys in their order, and how long a key is."""
+    """A level: its seeds and keys in their order, and how long a key is; and all seeds that were sent, also those for which no
+    key came."""
 
     seen: Seen
     keys: list[Key] = field(default_factory=list)
     size: int = 4
+    seeds: set[bytes] = field(default_factory=set)
 
 
 @dataclass
@@ -126,8 +129,9 @@ class Unit:
     routines: dict[int, Routine] = field(default_factory=dict)
     levels: dict[int, Level] = field(default_factory=dict)
     rows: list[Row] = field(default_factory=list)
-    # what changes by itself isn't compared
+    # what changes by itself isn't compared, and what that is
     varies: bool = False
+    changes: Changes = field(default_factory=Changes)
     # the functional identifier of testers with 29 bits; None for the usual one
     functional_29: Optional[int] = None
     # whether testers of CAN FD have the functional identifier of 11 bits, and that of 29, where classic ones can't have it, too
@@ -317,7 +321,7 @@ def routine_tables(unit: Unit) -> Iterator[str]:
 
 def level_tables(unit: Unit) -> Iterator[str]:
     for sub, it in sorted(unit.levels.items()):
-        varies = unit.varies and len({key.seed for key in it.keys}) > 1
+        varies = unit.varies and len(it.seeds) > 1
         keys = it.keys[:1] if varies else it.keys[:64]
         yield f"\n{commented(f'SecurityAccess: {it.seen.shown()}')}[[level]]\nsub = 0x{sub:02X}\n"
         yield "any_key = true\nvaries = true\n" if varies else ""
