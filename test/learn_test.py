@@ -27,6 +27,7 @@ import learn_bus
 import live
 from learn_changes import Changes
 from learn_judge import Exchange
+from learn_lost import Order, lines_at
 from learn_model import Held, one_round, s3_of, values_in
 from learn_rows import Case, orders_of, pattern_of, shortened, template_of
 from learn_setup import Did, Row, Seen, Unit, between, code_name, row_words
@@ -591,14 +592,16 @@ class OfTheBus(unittest.TestCase):
         pair = [learn_bus.Pair(0x7E0, 0x7E8, is_fd=True)]
         first, rest = f"7E8##11067620101{'00' * 59}", f"7E8##121{'00' * 41}CCCCCCCCCCCC"
         for count, frames in ((0, [first, "7E0##1300000", rest]), (1, [first, "7E0##1300000", rest.replace("##121", "##122")]), (1, [first, "7E0##1300000", f"7E8##121{'00' * 40}", "7E8##1023E00"])):
-            self.assertEqual(count, learn_bus.sending_of(self.lines(*frames), pair).broken.count, frames)
+            self.assertEqual(count, len(learn_bus.sending_of(self.lines(*frames), pair).losses.found), frames)
 
     def test_pairs_of_the_command_line(self) -> None:
         self.assertEqual(learn_bus.Pair(0x7E0, 0x7E8, False, "shop"), learn_bus.pair_of("7E0:7E8=shop"))
         self.assertEqual(learn_bus.Pair(0x7E0, 0x7E8, False, "shop", True), learn_bus.pair_of("7E0:7E8:fd=shop"))
         self.assertEqual(learn_bus.Pair(0x7E0, 0x7E8, False, "Shop", True), learn_bus.pair_of("7e0:7e8:FD=Shop"))
         self.assertEqual(learn_bus.Pair(0x18DA10F1, 0x18DAF110, True), learn_bus.pair_of("0x18DA10F1:0x18DAF110"))
-        for text in ("7E0", "7E0:18DAF110", "7E0:x", "7:8", "7E0:7E8:f", "7E0:7E8=a b", f"7E0:7E8={'a' * 17}", "7E0:7E8=\u017fhop", "7E0:7E8=\u212a"):
+        self.assertEqual(learn_bus.Pair(0x7E0, 0x7E8, False, "shop", True, 0x7DF), learn_bus.pair_of("7E0:7E8:7DF:fd=shop"))
+        self.assertEqual(learn_bus.Pair(0x18DA10F1, 0x18DAF110, True, functional=0x18DB33F1), learn_bus.pair_of("18DA10F1:18DAF110:0x18DB33F1"))
+        for text in ("7E0:7E8:18DB33F1", "7E0:7E8:fd:7DF", "7E0:7E8:7DF:7DF", "7E0", "7E0:18DAF110", "7E0:x", "7:8", "7E0:7E8:f", "7E0:7E8=a b", f"7E0:7E8={'a' * 17}", "7E0:7E8=\u017fhop", "7E0:7E8=\u212a"):
             self.assertRaises(ValueError, learn_bus.pair_of, text)
 
 
@@ -864,23 +867,82 @@ class OfRecordings(unittest.TestCase):
             self.assertEqual([0xF190, 0xF195], [it["id"] for it in found.tree()["did"]])
         self.assertEqual({"14FFFFFF": ["54"], "31010203": None}, rows_of(found))
 
-    def test_broken_messages_are_told(self) -> None:
-        long = [(0, "7E0#0322F190"), (3, "7E8#100C62F190313233"), (4, "7E0#300000"), (5, "7E8#21343536373839AA"), (100, "7E0#023E00"), (105, "7E8#027E00")]
-        asked = "what was asked is learned as unanswered"
+    def test_lost_frames_are_told(self) -> None:
+        """Nothing is learned of their exchanges, and the status is 8, but all else is."""
+        long = [(0, "7E0#0322F190"), (3, "7E8#101362F190313233"), (4, "7E0#300000"), (5, "7E8#2134353637383941"), (6, "7E8#22424344454647"), (100, "7E0#023E00"), (105, "7E8#027E00")]
         whole = learned_of(frames(*long))
         self.assertEqual((0, "", {}), (whole.status, whole.told, rows_of(whole)))
-        for text, lines in (
-            ("a Consecutive frame is missing", long[:3] + long[4:]),
-            ("it has another number", long[:3] + [(5, "7E8#22343536373839AA")] + long[4:]),
+        told = "learn: line 2: a Consecutive frame (number {}) of what tester_7E0 was sent is missing: nothing is learned of 22F190 at line 1\n"
+        for text, wanted, lines in (
+            ("the first Consecutive frame is missing", told.format(1), long[:3] + long[4:]),
+            ("the last one is missing", told.format(2), long[:4] + long[5:]),
+            ("a sequence gap", told.format(1), long[:3] + [(5, "7E8#2334353637383941")] + long[4:]),
+            ("a frame twice", told.format(2), long[:4] + [(6, "7E8#2134353637383941")] + long[4:]),
+            ("response pending before it", told.format(1).replace("line 2", "line 3"), long[:1] + [(2, "7E8#037F2278")] + long[1:3] + long[4:]),
+            ("the FirstFrame is missing", "learn: line 4: the FirstFrame of what tester_7E0 was sent is missing: nothing is learned of 22F190 at line 3\n", [*((at - 200, it) for at, it in long[-2:]), *long[:1], *long[3:]]),
         ):
-            found = learned_of(frames(*lines))
-            told = f"learn: a message of the unit breaks off, begun at 100.003: a frame is missing, or out of order; {asked}\n"
-            self.assertEqual((0, told, {"22F190": [""]}), (found.status, found.told, rows_of(found)), text)
-            self.assertIn("# ReadDataByIdentifier VIN, no answer: seen once, first at line 1\n", found.text)
-        found = learned_of(frames(*long[-2:], *((at + 200, it) for at, it in (long[:1] + long[2:4] + long[:3] + long[4:]))))
-        self.assertIn("learn: 2 messages of the unit break off, the first begun at 100.205: ", found.told)
+            lines = frames(*((at + 300, it) for at, it in lines))
+            found = learned_of(lines)
+            self.assertEqual((8, wanted, {}, []), (found.status, found.told, rows_of(found), found.tree().get("did", [])), text)
+            self.assertEqual(("8", True), (str(judged("compare", found, lines)[0]), "- 7F2231" in judged("compare", found, lines)[1]), text)
+        again = learned_of(frames(*long[:3], *long[4:], *((at + 200, it) for at, it in long)))
+        self.assertEqual((8, told.format(1), {}, "62F190" not in again.text), (again.status, again.told, rows_of(again), True))
+        self.assertEqual(["31323334353637383941424344454647"], [it["value"] for it in again.tree()["did"]])
         for text, lines in (("no FlowControl", long[:2]), ("the tester has no room", [*long[:2], (4, "7E0#320000")]), ("it begins within one", long[3:4])):
-            self.assertNotIn("break", learned_of(frames(*lines, *long[-2:])).told, text)
+            found = learned_of(frames(*lines, *long[-2:]))
+            self.assertEqual((0, False), (found.status, "missing" in found.told), text)
+
+    def test_lost_frames_of_a_request_are_told(self) -> None:
+        """Its answer isn't what nobody asked for; where there is none the tester left it off."""
+        session = [(0, "7E0#021003"), (3, "7E8#065003003201F4")]
+        write = [(100, "7E0#100A2EF190313233"), (101, "7E8#300000"), (102, "7E0#2134353637")]
+        lines = frames(*session, *write[:2], (110, "7E8#036EF190"), (200, "7E0#023E00"), (203, "7E8#027E00"))
+        found = learned_of(lines)
+        self.assertEqual((8, "learn: line 3: a Consecutive frame (number 1) of a request of tester_7E0 is missing: nothing is learned of the answer at line 5\n"), (found.status, found.told))
+        for text, more in (("no answer", []), ("another message", [(110, "7E8#036EF190"), (111, "7E8#036EF190")])):
+            found = learned_of(frames(*session, *(write if more else write[:2]), *more, (200, "7E0#023E00"), (203, "7E8#027E00")))
+            self.assertEqual((8 if more else 0, False), (found.status, "missing" in found.told), text)
+
+    def test_many_lost_frames(self) -> None:
+        """They don't keep the tool from learning the rest, and a long recording of them isn't slow."""
+        read = [(0, "7E0#0322F190"), (3, "7E8#100C62F190313233"), (4, "7E0#300000")]
+        lines = frames(*((at * 20 + ms, it) for at in range(1500) for ms, it in [*read, (10, "7E0#0322F195"), (13, "7E8#0462F19541")]))
+        found = learned_of(lines)
+        self.assertEqual((8, [0xF195], {}), (found.status, [it["id"] for it in found.tree()["did"]], rows_of(found)))
+        self.assertEqual((1000, True), (found.told.count("is missing: nothing is learned of 22F190"), "learn: and 500 more messages lack a frame\n" in found.told))
+
+    def test_lines_out_of_order_are_noted(self) -> None:
+        """As are lines that stand twice; both change nothing else."""
+        read = ["7E0#0322F190", "7E8#0462F19041", "7E0#023E00", "7E8#027E00"]
+        late = learned_of(frames((0, read[0]), (3, read[1]), (100, read[2]), (99, read[3]), (98, "7E0#023E80"), (120, "123#00")))
+        self.assertIn("learn: note: line 4 has an earlier stamp than a line above it, and 1 more have: the recording is out of order\n", late.told)
+        twice = learned_of(frames((0, read[0]), (3, read[1]), (100, read[2]), (105, read[3]), (200, "7E0#023E80"), (200, "7E0#023E80"), (230, "123#00"), (230, "123#00")))
+        self.assertEqual((0, "learn: note: line 6 says what the line above it says, with its stamp\n"), (twice.status, twice.told))
+        order = Order()
+        for at, (now, rest) in enumerate(((5, "000"), (5, "001"), (5, "001"), (4, "001"), (5, "001"), (5, "001"))):
+            order.take(at, now, rest, ("7E0", "023E80"))
+        self.assertEqual(([3], [2, 5]), (order.late, order.twice))
+
+    def test_numbers_of_lines(self) -> None:
+        with tempfile.TemporaryDirectory() as room:
+            path = put(f"{room}/capture.log", "a\n\nbb\r\nc\n")
+            self.assertEqual({0: 1, 2: 2, 3: 3, 7: 4}, lines_at(path, [7, 0, 3, 2, 3]))
+            self.assertEqual({}, lines_at(path, []))
+            whole = "x" * 999 + "\n"
+            path = put(f"{room}/capture.log", whole * 9000)
+            self.assertEqual({it * 1000: it + 1 for it in (0, 4193, 4194, 4195, 8999)}, lines_at(path, [it * 1000 for it in (0, 4193, 4194, 4195, 8999)]))
+
+    def test_functional_identifiers_of_testers(self) -> None:
+        """Each tester may be given its own; those without have the one that is found."""
+        asks = ["7E0#0322F190", "7E8#0462F19041", "7A0#0322F190", "7A8#0462F19041", "700#0322F190", "7E8#0462F19041", "701#0322F190", "7A8#0462F19041", "7DF#023E80"]
+        lines = frames(*((at * 100, it) for at, it in enumerate(asks)), (2000, "123#00"))
+        found = learned_of(lines, "--pair", "7E0:7E8:700=a", "--pair", "7A0:7A8:701=b")
+        self.assertEqual((0, "", [0x700, 0x701]), (found.status, found.told, [it["functional"] for it in found.tree()["tester"]]))
+        self.assertIn(" F 22F190 62F19041 = ", judged("compare", found, lines)[1])
+        found = learned_of(lines, "--pair", "7E0:7E8:700=a", "--pair", "7A0:7A8=b")
+        self.assertEqual([0x700, None], [it.get("functional") for it in found.tree()["tester"]])
+        told = "learn: --functional 7DF has no effect: --pair gives each tester its own\n"
+        self.assertEqual((0, told), self.told(lines, "--pair", "7E0:7E8:700", "--pair", "7A0:7A8:701", "--functional", "7DF"))
 
     def test_a_request_that_the_end_cuts_off_is_told(self) -> None:
         """It is the last one of its tester, and the recording ends before the answer had to come."""
@@ -1392,7 +1454,7 @@ class OfRecordings(unittest.TestCase):
 
     def test_words(self) -> None:
         status, told = self.told("", "--pair", "7E0:7E8=a b")
-        self.assertEqual((1, True), (status, "it is REQUEST:RESPONSE[:fd][=NAME], " in told and "a name of 1 to 16 ASCII letters, digits or _" in told))
+        self.assertEqual((1, True), (status, "it is REQUEST:RESPONSE[:FUNCTIONAL][:fd][=NAME], " in told and "a name of 1 to 16 ASCII letters, digits or _" in told))
         status, told = self.told("", "--pair", "7E0:7E8=a", "--pair", "7E0:7E9=b")
         self.assertEqual((2, True), (status, "note: the setup learned: line " in told and "request of [[tester]] 2 is 0x7E0" in told), told)
         found = learned_of("", "--pair", "7E0:7E8=a", "--pair", "7E0:7E9=b")

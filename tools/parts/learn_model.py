@@ -31,7 +31,7 @@ def refusal(it: Exchange) -> int:
 
 def is_left_pending(it: Exchange) -> bool:
     """Whether response pending came, and no answer."""
-    return it.sent is None and it.pendings > 0
+    return it.sent is None and it.pendings > 0 and not it.is_lost
 
 
 def sub_of(it: Exchange) -> int:
@@ -349,7 +349,7 @@ def learn_model(unit: Unit, exchanges: list[Exchange]) -> None:
         unit.asked.setdefault(it.place, Seen()).at(it.line)
         held = walk.before(it)
         reader = READERS.get(it.request[0])
-        if reader:
+        if reader and not it.is_lost:
             reader(unit, notes, it, held, walk.turns)
         if unit.varies:
             unit.changes.take(it)

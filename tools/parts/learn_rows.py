@@ -61,13 +61,13 @@ class Case:
 
 
 def cases_of(unit: Unit, exchanges: list[Exchange], rows: Optional[list[Row]] = None) -> list[Case]:
-    """The exchanges that have a request, those that are alike together, in the sessions to which these rows lead; without rows
+    """The exchanges that have a request and lack no frame, those that are alike together, in the sessions to which these rows lead; without rows
     those alone that change the session, in the unit's own."""
     walk, found, deciding = Walk(unit.s3), {}, Deciding(rows or ())
     for it in exchanges:
         if it.request:
             held = walk.before(it)
-            if rows is None and it.request[0] not in OF_THE_SESSION:
+            if it.is_lost or rows is None and it.request[0] not in OF_THE_SESSION:
                 walk.take(it)
                 continue
             held = held if held.level in unit.levels or not held.level else Held(held.session)

@@ -4,9 +4,11 @@ import textwrap
 from dataclasses import dataclass, field
 from typing import Iterator, Optional
 
-from learn_bus import FUNCTIONAL, FUNCTIONAL_29, LENGTHS, Pair, Sending
+from learn_bus import FUNCTIONAL, FUNCTIONAL_29, Pair, Sending
 from learn_changes import Changes
+from learn_frames import LENGTHS
 from learn_judge import Exchange
+from learn_lost import Lost
 from uds_names import OF_MANUFACTURER, identifier_name, refusal, routine_name, service_name, sub_name
 
 # the times of links that a setup has where it says nothing
@@ -141,6 +143,9 @@ class Unit:
     # when the recording ends, and the exchanges that it cuts off
     end: Optional[int] = None
     cut_off: list[Exchange] = field(default_factory=list)
+    # the messages that lack a frame, and what is noted of the order of lines
+    lost: list[Lost] = field(default_factory=list)
+    notes: list[str] = field(default_factory=list)
     # the requests of each tester, by its place, and the line that told P2 and P2*
     asked: dict[int, Seen] = field(default_factory=dict)
     told: int = 0
@@ -243,7 +248,7 @@ def changed_flow(sending: Sending) -> Iterator[str]:
 
 def free_identifier(unit: Unit, is_extended: bool = False) -> int:
     """An identifier of 11 bits, or of 29, that no tester has."""
-    own = {it for pair in unit.pairs if pair.is_extended == is_extended for it in (pair.request, pair.response)}
+    own = {it for pair in unit.pairs if pair.is_extended == is_extended for it in (pair.request, pair.response, pair.functional)}
     usual, seen = (FUNCTIONAL_29, unit.functional_29) if is_extended else (FUNCTIONAL, unit.functional)
     return next(it for it in range(0x1FFFFFFF if is_extended else 0x7FF, 0, -1) if it not in own | {usual, seen})
 
@@ -255,7 +260,7 @@ def is_mixed(unit: Unit, pair: Pair) -> bool:
 
 def is_apart(unit: Unit, pair: Pair) -> bool:
     """Whether a tester has a functional identifier that nobody uses: one of CAN FD and a classic one can't have the same."""
-    return is_mixed(unit, pair) and pair.is_fd != unit.is_all_fd[pair.is_extended]
+    return pair.functional is None and is_mixed(unit, pair) and pair.is_fd != unit.is_all_fd[pair.is_extended]
 
 
 def why_apart(unit: Unit, pair: Pair) -> str:
@@ -268,6 +273,8 @@ def why_apart(unit: Unit, pair: Pair) -> str:
 def own_functional(unit: Unit, place: int) -> tuple[Optional[int], str]:
     """The functional identifier that the table of a tester has, and a word about it; None where it needs none."""
     pair = unit.pairs[place]
+    if pair.functional is not None:
+        return pair.functional, ""
     if is_apart(unit, pair):
         return free_identifier(unit, pair.is_extended), f"  # a free one: {why_apart(unit, pair)}"
     if place in unit.unheard and not is_mixed(unit, pair):
