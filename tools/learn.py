@@ -364,7 +364,7 @@ class NoTester(Exception):
     """There is no tester in a recording; with what helps."""
 
 
-def refuse(program: str, path: str, room: str, interface: Optional[str]) -> None:
+def refuse(program: str, path: str, room: str, interface: Optional[str]) -> NoReturn:
     """Has the program tell what is wrong with a recording in which no tester is found; NoTester where it takes it."""
     pair = Pair(0x7E0, 0x7E8, name="tester")
     verdict = Program(program, path, room, [pair.name], interface)(setup_text(Unit([pair], None, Sending()), ""))
@@ -434,29 +434,25 @@ def arguments(given: Optional[list[str]]) -> argparse.Namespace:
     return words.parse_args(given)
 
 
-def main(given: Optional[list[str]] = None) -> int:
-    """Runs the tool by these words, or by those of the command line; returns its status."""
-    ready()
-    words, progress = arguments(given), Progress()
-    words.program = words.program or program()
-    if not os.access(words.program, os.X_OK):
-        say(f"{words.program} isn't built: ./uds_play builds it")
-        return 2
+def learned_unit(words: argparse.Namespace, pairs: list[Pair], room: str, progress: Progress) -> tuple[Unit, str, Verdict, int]:
+    """The unit of the command line's recording, its setup, what the judge says of that, and how many rows found no room."""
+    path = converted(words.capture, room)
     try:
-        pairs = [pair_of(it) for it in words.pair]
-    except ValueError as fault:
-        say(f"--pair {fault}")
-        return 1
+        unit = unit_of(path, pairs, words, progress)
+    except NoTester:
+        refuse(words.program, path, room, words.interface)
+    progress.at(0.2, "the exchanges")
+    judge = Program(words.program, path, room, [it.name for it in unit.pairs], words.interface)
+    source = plain(os.path.basename(words.capture))
+    return unit, *learned(unit, knowing(judge, unit.lost), source, progress)
+
+
+def run(words: argparse.Namespace, pairs: list[Pair]) -> int:
+    """Makes the setup, prints it, and tells what differs; the status."""
+    progress = Progress()
     with tempfile.TemporaryDirectory() as room:
         try:
-            path = converted(words.capture, room)
-            try:
-                unit = unit_of(path, pairs, words, progress)
-            except NoTester:
-                refuse(words.program, path, room, words.interface)
-            progress.at(0.2, "the exchanges")
-            judge = knowing(Program(words.program, path, room, [it.name for it in unit.pairs], words.interface), unit.lost)
-            text, verdict, left_out = learned(unit, judge, plain(os.path.basename(words.capture)), progress)
+            unit, text, verdict, left_out = learned_unit(words, pairs, room, progress)
         except NoTester as fault:
             say(str(fault))
             return NOTHING
@@ -474,6 +470,22 @@ def main(given: Optional[list[str]] = None) -> int:
         return 7
     tell(verdict, unit, left_out)
     return DIFFERS if verdict.lost else verdict.status if verdict.status in (DIFFERS, NOTHING) else AGREES
+
+
+def main(given: Optional[list[str]] = None) -> int:
+    """Runs the tool by these words, or by those of the command line; returns its status."""
+    ready()
+    words = arguments(given)
+    words.program = words.program or program()
+    if not os.access(words.program, os.X_OK):
+        say(f"{words.program} isn't built: ./uds_play builds it")
+        return 2
+    try:
+        pairs = [pair_of(it) for it in words.pair]
+    except ValueError as fault:
+        say(f"--pair {fault}")
+        return 1
+    return run(words, pairs)
 
 
 if __name__ == "__main__":
