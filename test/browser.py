@@ -103,6 +103,11 @@ class Browser:
         for kind in ("mousePressed", "mouseReleased"):
             self.mouse(kind, x, y, button="left", clickCount=1)
 
+    def key(self, letter):
+        """Presses a letter."""
+        for kind in ("keyDown", "keyUp"):
+            self.call("Input.dispatchKeyEvent", type=kind, key=letter, text=letter if kind == "keyDown" else "", code=f"Key{letter.upper()}")
+
     def picture(self):
         """A picture of what is in sight, as PNG."""
         return base64.b64decode(self.call("Page.captureScreenshot", format="png")["data"])

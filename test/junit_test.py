@@ -169,6 +169,16 @@ def of_the_end() -> None:
     told(ran.returncode == 1 and ran.stdout == b"" and b"It reads standard input" in ran.stderr, "a word too many", ran)
 
 
+def of_help() -> None:
+    """The help fits a terminal, and says how a build server takes the report."""
+    for word in ("-h", "--help"):
+        ran = subprocess.run([sys.executable, TOOL, word], stdin=subprocess.DEVNULL, capture_output=True, text=True, timeout=60)
+        told((ran.returncode, ran.stderr) == (0, ""), f"{word} is no fault", ran)
+        wide = [line for line in ran.stdout.splitlines() if len(line) > 80]
+        told(not wide, f"{word} fits into 80 columns", wide)
+        told(all(it in ran.stdout for it in (".gitlab-ci.yml", "junit: report.xml", "Jenkinsfile", "junit 'report.xml'")), f"{word} has both build servers", ran)
+
+
 def by_parser() -> None:
     """The same by junitparser, as a build server's script would read it."""
     if DEBIAN not in sys.path:
@@ -192,7 +202,7 @@ def by_parser() -> None:
 
 def main() -> int:
     told.needs_program()
-    for group in (by_schema, line_ends, words, of_program, of_the_end, by_parser):
+    for group in (by_schema, line_ends, words, of_program, of_the_end, of_help, by_parser):
         group()
     return told.ended()
 

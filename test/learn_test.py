@@ -25,7 +25,9 @@ from harness import DEBIAN, TOP, Tally, run_without
 import learn
 import learn_bus
 import live
+from learn_changes import Changes
 from learn_judge import Exchange
+from learn_lost import Order, lines_at
 from learn_model import Held, one_round, s3_of, values_in
 from learn_rows import Case, orders_of, pattern_of, shortened, template_of
 from learn_setup import Did, Row, Seen, Unit, between, code_name, row_words
@@ -590,14 +592,16 @@ class OfTheBus(unittest.TestCase):
         pair = [learn_bus.Pair(0x7E0, 0x7E8, is_fd=True)]
         first, rest = f"7E8##11067620101{'00' * 59}", f"7E8##121{'00' * 41}CCCCCCCCCCCC"
         for count, frames in ((0, [first, "7E0##1300000", rest]), (1, [first, "7E0##1300000", rest.replace("##121", "##122")]), (1, [first, "7E0##1300000", f"7E8##121{'00' * 40}", "7E8##1023E00"])):
-            self.assertEqual(count, learn_bus.sending_of(self.lines(*frames), pair).broken.count, frames)
+            self.assertEqual(count, len(learn_bus.sending_of(self.lines(*frames), pair).losses.found), frames)
 
     def test_pairs_of_the_command_line(self) -> None:
         self.assertEqual(learn_bus.Pair(0x7E0, 0x7E8, False, "shop"), learn_bus.pair_of("7E0:7E8=shop"))
         self.assertEqual(learn_bus.Pair(0x7E0, 0x7E8, False, "shop", True), learn_bus.pair_of("7E0:7E8:fd=shop"))
         self.assertEqual(learn_bus.Pair(0x7E0, 0x7E8, False, "Shop", True), learn_bus.pair_of("7e0:7e8:FD=Shop"))
         self.assertEqual(learn_bus.Pair(0x18DA10F1, 0x18DAF110, True), learn_bus.pair_of("0x18DA10F1:0x18DAF110"))
-        for text in ("7E0", "7E0:18DAF110", "7E0:x", "7:8", "7E0:7E8:f", "7E0:7E8=a b", f"7E0:7E8={'a' * 17}", "7E0:7E8=\u017fhop", "7E0:7E8=\u212a"):
+        self.assertEqual(learn_bus.Pair(0x7E0, 0x7E8, False, "shop", True, 0x7DF), learn_bus.pair_of("7E0:7E8:7DF:fd=shop"))
+        self.assertEqual(learn_bus.Pair(0x18DA10F1, 0x18DAF110, True, functional=0x18DB33F1), learn_bus.pair_of("18DA10F1:18DAF110:0x18DB33F1"))
+        for text in ("7E0:7E8:18DB33F1", "7E0:7E8:fd:7DF", "7E0:7E8:7DF:7DF", "7E0", "7E0:18DAF110", "7E0:x", "7:8", "7E0:7E8:f", "7E0:7E8=a b", f"7E0:7E8={'a' * 17}", "7E0:7E8=\u017fhop", "7E0:7E8=\u212a"):
             self.assertRaises(ValueError, learn_bus.pair_of, text)
 
 
@@ -624,17 +628,20 @@ class OfTheParts(unittest.TestCase):
     def test_words_of_rows(self) -> None:
         rows = [
             Row("2761", ["7F2770"]), Row("2743", ["7F2770"]), Row("1905*", ["7F1994"]), Row("1003", [""]), Row("22F190", ["62F19041", "", "62F19041"]),
-            Row("14FFFFFF", ["7F1478"]), Row("14FFFFFF", ["7F1478", "54"]), Row("14FFFFFF"),
+            Row("14FFFFFF", ["7F1478"]), Row("14FFFFFF", ["7F1478", "54"]), Row("14FFFFFF"), Row("3101FF00*", ["7101FF00"]), Row("31....00", [""]), Row("2FF40C03*", ["6FF40C03"]),
         ]
         want = [
             "SecurityAccess requestSeed, uploadDownloadNotAccepted",
             "SecurityAccess, uploadDownloadNotAccepted",
-            "ReadDTCInformation reportDTCStoredDataByRecordNumber, refused",
+            "ReadDTCInformation reportDTCStoredDataByRecordNumber, reservedForSpecificConditionsNotCorrect",
             "DiagnosticSessionControl extendedDiagnosticSession, no answer",
             "ReadDataByIdentifier VIN, at times no answer",
             "ClearDiagnosticInformation, response pending and no answer",
             "ClearDiagnosticInformation, at times response pending and no answer",
             "ClearDiagnosticInformation",
+            "RoutineControl startRoutine eraseMemory",
+            "RoutineControl, no answer",
+            "InputOutputControlByIdentifier OBDDataIdentifier",
         ]
         self.assertEqual(want, [row_words(it) for it in rows])
 
@@ -860,23 +867,82 @@ class OfRecordings(unittest.TestCase):
             self.assertEqual([0xF190, 0xF195], [it["id"] for it in found.tree()["did"]])
         self.assertEqual({"14FFFFFF": ["54"], "31010203": None}, rows_of(found))
 
-    def test_broken_messages_are_told(self) -> None:
-        long = [(0, "7E0#0322F190"), (3, "7E8#100C62F190313233"), (4, "7E0#300000"), (5, "7E8#21343536373839AA"), (100, "7E0#023E00"), (105, "7E8#027E00")]
-        asked = "what was asked is learned as unanswered"
+    def test_lost_frames_are_told(self) -> None:
+        """Nothing is learned of their exchanges, and the status is 8, but all else is."""
+        long = [(0, "7E0#0322F190"), (3, "7E8#101362F190313233"), (4, "7E0#300000"), (5, "7E8#2134353637383941"), (6, "7E8#22424344454647"), (100, "7E0#023E00"), (105, "7E8#027E00")]
         whole = learned_of(frames(*long))
         self.assertEqual((0, "", {}), (whole.status, whole.told, rows_of(whole)))
-        for text, lines in (
-            ("a Consecutive frame is missing", long[:3] + long[4:]),
-            ("it has another number", long[:3] + [(5, "7E8#22343536373839AA")] + long[4:]),
+        told = "learn: line 2: a Consecutive frame (number {}) of what tester_7E0 was sent is missing: nothing is learned of 22F190 at line 1\n"
+        for text, wanted, lines in (
+            ("the first Consecutive frame is missing", told.format(1), long[:3] + long[4:]),
+            ("the last one is missing", told.format(2), long[:4] + long[5:]),
+            ("a sequence gap", told.format(1), long[:3] + [(5, "7E8#2334353637383941")] + long[4:]),
+            ("a frame twice", told.format(2), long[:4] + [(6, "7E8#2134353637383941")] + long[4:]),
+            ("response pending before it", told.format(1).replace("line 2", "line 3"), long[:1] + [(2, "7E8#037F2278")] + long[1:3] + long[4:]),
+            ("the FirstFrame is missing", "learn: line 4: the FirstFrame of what tester_7E0 was sent is missing: nothing is learned of 22F190 at line 3\n", [*((at - 200, it) for at, it in long[-2:]), *long[:1], *long[3:]]),
         ):
-            found = learned_of(frames(*lines))
-            told = f"learn: a message of the unit breaks off, begun at 100.003: a frame is missing, or out of order; {asked}\n"
-            self.assertEqual((0, told, {"22F190": [""]}), (found.status, found.told, rows_of(found)), text)
-            self.assertIn("# ReadDataByIdentifier VIN, no answer: seen once, first at line 1\n", found.text)
-        found = learned_of(frames(*long[-2:], *((at + 200, it) for at, it in (long[:1] + long[2:4] + long[:3] + long[4:]))))
-        self.assertIn("learn: 2 messages of the unit break off, the first begun at 100.205: ", found.told)
+            lines = frames(*((at + 300, it) for at, it in lines))
+            found = learned_of(lines)
+            self.assertEqual((8, wanted, {}, []), (found.status, found.told, rows_of(found), found.tree().get("did", [])), text)
+            self.assertEqual(("8", True), (str(judged("compare", found, lines)[0]), "- 7F2231" in judged("compare", found, lines)[1]), text)
+        again = learned_of(frames(*long[:3], *long[4:], *((at + 200, it) for at, it in long)))
+        self.assertEqual((8, told.format(1), {}, "62F190" not in again.text), (again.status, again.told, rows_of(again), True))
+        self.assertEqual(["31323334353637383941424344454647"], [it["value"] for it in again.tree()["did"]])
         for text, lines in (("no FlowControl", long[:2]), ("the tester has no room", [*long[:2], (4, "7E0#320000")]), ("it begins within one", long[3:4])):
-            self.assertNotIn("break", learned_of(frames(*lines, *long[-2:])).told, text)
+            found = learned_of(frames(*lines, *long[-2:]))
+            self.assertEqual((0, False), (found.status, "missing" in found.told), text)
+
+    def test_lost_frames_of_a_request_are_told(self) -> None:
+        """Its answer isn't what nobody asked for; where there is none the tester left it off."""
+        session = [(0, "7E0#021003"), (3, "7E8#065003003201F4")]
+        write = [(100, "7E0#100A2EF190313233"), (101, "7E8#300000"), (102, "7E0#2134353637")]
+        lines = frames(*session, *write[:2], (110, "7E8#036EF190"), (200, "7E0#023E00"), (203, "7E8#027E00"))
+        found = learned_of(lines)
+        self.assertEqual((8, "learn: line 3: a Consecutive frame (number 1) of a request of tester_7E0 is missing: nothing is learned of the answer at line 5\n"), (found.status, found.told))
+        for text, more in (("no answer", []), ("another message", [(110, "7E8#036EF190"), (111, "7E8#036EF190")])):
+            found = learned_of(frames(*session, *(write if more else write[:2]), *more, (200, "7E0#023E00"), (203, "7E8#027E00")))
+            self.assertEqual((8 if more else 0, False), (found.status, "missing" in found.told), text)
+
+    def test_many_lost_frames(self) -> None:
+        """They don't keep the tool from learning the rest, and a long recording of them isn't slow."""
+        read = [(0, "7E0#0322F190"), (3, "7E8#100C62F190313233"), (4, "7E0#300000")]
+        lines = frames(*((at * 20 + ms, it) for at in range(1500) for ms, it in [*read, (10, "7E0#0322F195"), (13, "7E8#0462F19541")]))
+        found = learned_of(lines)
+        self.assertEqual((8, [0xF195], {}), (found.status, [it["id"] for it in found.tree()["did"]], rows_of(found)))
+        self.assertEqual((1000, True), (found.told.count("is missing: nothing is learned of 22F190"), "learn: and 500 more messages lack a frame\n" in found.told))
+
+    def test_lines_out_of_order_are_noted(self) -> None:
+        """As are lines that stand twice; both change nothing else."""
+        read = ["7E0#0322F190", "7E8#0462F19041", "7E0#023E00", "7E8#027E00"]
+        late = learned_of(frames((0, read[0]), (3, read[1]), (100, read[2]), (99, read[3]), (98, "7E0#023E80"), (120, "123#00")))
+        self.assertIn("learn: note: line 4 has an earlier stamp than a line above it, and 1 more have: the recording is out of order\n", late.told)
+        twice = learned_of(frames((0, read[0]), (3, read[1]), (100, read[2]), (105, read[3]), (200, "7E0#023E80"), (200, "7E0#023E80"), (230, "123#00"), (230, "123#00")))
+        self.assertEqual((0, "learn: note: line 6 says what the line above it says, with its stamp\n"), (twice.status, twice.told))
+        order = Order()
+        for at, (now, rest) in enumerate(((5, "000"), (5, "001"), (5, "001"), (4, "001"), (5, "001"), (5, "001"))):
+            order.take(at, now, rest, ("7E0", "023E80"))
+        self.assertEqual(([3], [2, 5]), (order.late, order.twice))
+
+    def test_numbers_of_lines(self) -> None:
+        with tempfile.TemporaryDirectory() as room:
+            path = put(f"{room}/capture.log", "a\n\nbb\r\nc\n")
+            self.assertEqual({0: 1, 2: 2, 3: 3, 7: 4}, lines_at(path, [7, 0, 3, 2, 3]))
+            self.assertEqual({}, lines_at(path, []))
+            whole = "x" * 999 + "\n"
+            path = put(f"{room}/capture.log", whole * 9000)
+            self.assertEqual({it * 1000: it + 1 for it in (0, 4193, 4194, 4195, 8999)}, lines_at(path, [it * 1000 for it in (0, 4193, 4194, 4195, 8999)]))
+
+    def test_functional_identifiers_of_testers(self) -> None:
+        """Each tester may be given its own; those without have the one that is found."""
+        asks = ["7E0#0322F190", "7E8#0462F19041", "7A0#0322F190", "7A8#0462F19041", "700#0322F190", "7E8#0462F19041", "701#0322F190", "7A8#0462F19041", "7DF#023E80"]
+        lines = frames(*((at * 100, it) for at, it in enumerate(asks)), (2000, "123#00"))
+        found = learned_of(lines, "--pair", "7E0:7E8:700=a", "--pair", "7A0:7A8:701=b")
+        self.assertEqual((0, "", [0x700, 0x701]), (found.status, found.told, [it["functional"] for it in found.tree()["tester"]]))
+        self.assertIn(" F 22F190 62F19041 = ", judged("compare", found, lines)[1])
+        found = learned_of(lines, "--pair", "7E0:7E8:700=a", "--pair", "7A0:7A8=b")
+        self.assertEqual([0x700, None], [it.get("functional") for it in found.tree()["tester"]])
+        told = "learn: --functional 7DF has no effect: --pair gives each tester its own\n"
+        self.assertEqual((0, told), self.told(lines, "--pair", "7E0:7E8:700", "--pair", "7A0:7A8:701", "--functional", "7DF"))
 
     def test_a_request_that_the_end_cuts_off_is_told(self) -> None:
         """It is the last one of its tester, and the recording ends before the answer had to come."""
@@ -995,6 +1061,90 @@ class OfRecordings(unittest.TestCase):
             self.assertEqual((0, "", {request: answers}), (plain.status, plain.told, rows_of(plain)))
             other = [(request, it.replace("40C0", "40C7")) for it in answers]
             self.assertEqual((0, 8), (judged("compare", found, asked(*other))[0], judged("compare", found, asked(*other[1:]))[0]))
+
+    def test_what_varies_of_other_services(self) -> None:
+        """Whole values where the service tells them, else the bytes that changed; also seeds beside those of the model. A recording
+        with other values agrees, one with other bytes beside them doesn't."""
+        for asks, rows, spoilt in (
+            ([("010C", "410C0B54"), ("010C", "410C0B55"), ("010D", "410D10")], {"010C": ["410C????"], "010D": ["410D10"]}, ("410C", "410D")),
+            ([("010C0D", "410C0B540D10"), ("010C0D", "410C0B550D11")], {"010C0D": ["410C????0D??"]}, ("0D1", "0E1")),
+            ([("0110", "41100B54"), ("0110", "41100B55"), ("010C", "410C0B54"), ("010C", "410C0B55")], {"010C": ["410C????"], "0110": ["4110????"]}, ("4110", "4111")),
+            ([("2F010000", "6F0100000B54"), ("2F010000", "6F0100000B55"), ("2F01000301", "6F01000301")], {"2F010000": ["6F010000????"], "2F01000301": ["6F01000301"]}, ("03010301", "03010302")),
+            ([("231101", "63AB0B54"), ("231101", "63AB0B55")], {"231101": ["63??????"]}, ("63AB0B55", "7F2331")),
+            ([("1904010203FF", "590401020324010B54"), ("1904010203FF", "590401020324010B55")], {"1904010203FF": ["590401020324010B??"]}, ("020324", "020325")),
+            ([("BA01", "FA01")], {"BA01": ["FA01"]}, ("FA", "FB")),
+            ([("A501", "E5010B54"), ("A501", "E5010B55"), ("A502", "E5020B54"), ("A502", "E5020B55")], {"A501": ["E5010B??"], "A502": ["E5020B??"]}, ("E501", "E502")),
+        ):
+            other = [(ask, re.sub("0B5(.)", lambda it: f"{'A7' if '????' in str(rows) else '0B'}F{it[1]}", sent)) for ask, sent in asks]
+            found = learned_of(asked(("3E00", "7E00"), *asks), "--varies")
+            self.assertEqual((0, "", rows), (found.status, found.told, {it: reply for it, reply in rows_of(found).items() if it != "3E00"}), asks)
+            self.assertEqual(0, judged("compare", found, asked(("3E00", "7E00"), *other))[0], found.text)
+            bad = [(ask, sent.replace(*spoilt)) for ask, sent in asks]
+            self.assertEqual((True, 8), (bad != asks or "03010301" in spoilt, judged("compare", found, asked(("3E00", "7E00"), *[(ask, "7F" + ask[:2] + "22") for ask, _ in bad]))[0]), asks)
+            plain = learned_of(asked(("3E00", "7E00"), *asks))
+            self.assertEqual((0, "", False), (plain.status, plain.told, "??" in plain.text), asks)
+
+    def test_results_that_vary(self) -> None:
+        """Not the byte that says whether the routine runs, where that is the same."""
+        start, runs = ("31010203", "71010203"), ("31030203", "7103020301")
+        asks = [("1003", "5003003201F4"), start, runs, *[("31030203", f"7103020300{it}") for it in ("0B54", "0B55", "0B56")]]
+        found = learned_of(asked(*asks), "--varies")
+        self.assertEqual((0, "", {"31030203": ["7103020301", *["7103020300????"] * 3]}), (found.status, found.told, rows_of(found)))
+
+    def test_seeds_that_vary(self) -> None:
+        """Also where no key came for them, in more than one level, and of levels that no setup has."""
+        seeds = [("1003", "5003003201F4"), ("2703", "67030102"), ("2703", "67030104"), ("2705", "6705010203"), ("2706AA", "6706"), ("1003", "5003003201F4"), ("2705", "6705010204")]
+        others = [("2761", "67610102"), ("2762AABB", "6762"), ("2761", "67610109"), ("2762FFFF", "7F2735"), ("2762AACC", "6762")]
+        found = learned_of(asked(*seeds, *others), "--varies")
+        self.assertEqual((0, ""), (found.status, found.told))
+        self.assertEqual([(3, True, True), (5, True, True)], [(it["sub"], it["varies"], it["any_key"]) for it in found.tree()["level"]])
+        self.assertEqual({"2761": ["6761????"], "2762FFFF": ["7F2735"], "2762*": ["6762"]}, rows_of(found))
+        other = [(ask.replace("62AA", "62A1"), sent.replace("01", "7A") if ask in ("2703", "2705", "2761") else sent) for ask, sent in (*seeds, *others)]
+        self.assertEqual(0, judged("compare", found, asked(*other))[0])
+        plain = rows_of(learned_of(asked(*seeds, *others)))
+        self.assertEqual(([["6762"]] * 2, None), ([plain.get(it) for it in ("2762AABB", "2762AACC")], plain.get("2762*")))
+
+    def test_the_small_unit_where_values_vary(self) -> None:
+        for seed in RUNS[:: 8]:
+            with self.subTest(seed=seed):
+                found = learned_of(recording(seed), "--varies")
+                told = re.sub("learn: the values of .*\n", "", self.doubtful(found))
+                self.assertEqual((0, ""), (found.status, told))
+
+    def test_one_row_for_a_family(self) -> None:
+        """Of requests that differ in their data alone; one that is answered otherwise has its own."""
+        session = ("1003", "5003003201F4")
+        for asks, rows in (
+            ([("3101FF0044000100", "7101FF0010"), ("3101FF00440002", "7101FF0010")], {"3101FF00*": ["7101FF0010"]}),
+            ([("3101FF00440001", "7101FF0010"), ("3101FF00440002", "7F3131"), ("3101FF004403", "7101FF0010")], {"3101FF00440002": ["7F3131"], "3101FF00*": ["7101FF0010"]}),
+            ([("3101FF0044", "7101FF0010"), ("3101FF0045", "7101FF0011")], {"3101FF0044": ["7101FF0010"], "3101FF0045": ["7101FF0011"]}),
+            ([("3101FF00440001", "7101FF0010")], {"3101FF00440001": ["7101FF0010"]}),
+            ([("3101FF0044", "7101FF0010"), ("3101FF0045", "7101FF0010"), ("3101FF004501", "7F3113")], {"3101FF004501": ["7F3113"], "3101FF00*": ["7101FF0010"]}),
+            ([("3101FF00440001", "7101FF00"), ("3101FF00440002", "7101FF00"), ("3101FF01", "7101FF01")], {"3101FF00*": ["7101FF00"]}),
+            ([("3601AABBCC", "7601"), ("3602AABBDD", "7602"), ("3603AABB", "7603")], {"36..*": ["76$1"]}),
+            ([("2F01000301AA", "6F010003"), ("2F01000302", "6F010003"), ("2F01010301", "6F010103")], {"2F010003*": ["6F010003"], "2F01010301": ["6F010103"]}),
+            ([("2F01000301", "6F01000301"), ("2F01000302", "6F01000302")], {"2F010003..": ["6F010003$4"]}),
+            ([("240100", "6401000111"), ("240101", "6401010111"), ("240102", "7F2431"), ("240203", "7F2431")], {"240100": ["6401000111"], "240101": ["6401010111"], "24....": ["7F2431"]}),
+        ):
+            found = learned_of(asked(session, *asks))
+            self.assertEqual((0, "", rows), (found.status, found.told, rows_of(found)), asks)
+
+    def test_places_of_what_changes(self) -> None:
+        def template(*pairs: tuple[str, str]) -> str:
+            changes = Changes()
+            for it in pairs:
+                changes.take(exchange(0, *it))
+            return changes.template(*map(bytes.fromhex, pairs[0]))
+
+        self.assertEqual("410C????0D??", template(("010C0D", "410C0B540D10"), ("010C0D", "410C0B550D11")))
+        self.assertEqual("410C0B0C??0C10", template(("010C0C", "410C0B0C540C10"), ("010C0C", "410C0B0C550C10")), "a PID may stand in several places")
+        self.assertEqual("410C0B540D??", template(("010C0D", "410C0B540D10"), ("010C0D", "410C0B540D11")))
+        self.assertEqual("4103??????", template(("0103", "4103010203"), ("0103", "41030102")), "another length")
+        self.assertEqual("7103020301", template(("31030203", "7103020301"), ("31030203", "710302030001")), "another length says something else")
+        self.assertEqual("67010000", template(("2701", "67010000"), ("2701", "67010102")), "a level that is unlocked")
+        self.assertEqual("5003003201F4", template(("1003", "5003003201F4"), ("1003", "5003001901F4")))
+        self.assertEqual("6702AA", template(("2702", "6702AA"), ("2702", "6702AB")))
+        self.assertEqual("7F2231", template(("220101", "7F2231"), ("220101", "7F2233")))
 
     def test_values_of_one_answer(self) -> None:
         """Where the identifier behind it may stand in several places the lengths aren't known."""
@@ -1304,7 +1454,7 @@ class OfRecordings(unittest.TestCase):
 
     def test_words(self) -> None:
         status, told = self.told("", "--pair", "7E0:7E8=a b")
-        self.assertEqual((1, True), (status, "it is REQUEST:RESPONSE[:fd][=NAME], " in told and "a name of 1 to 16 ASCII letters, digits or _" in told))
+        self.assertEqual((1, True), (status, "it is REQUEST:RESPONSE[:FUNCTIONAL][:fd][=NAME], " in told and "a name of 1 to 16 ASCII letters, digits or _" in told))
         status, told = self.told("", "--pair", "7E0:7E8=a", "--pair", "7E0:7E9=b")
         self.assertEqual((2, True), (status, "note: the setup learned: line " in told and "request of [[tester]] 2 is 0x7E0" in told), told)
         found = learned_of("", "--pair", "7E0:7E8=a", "--pair", "7E0:7E9=b")

@@ -32,6 +32,8 @@ PICTURES = f"{TOP}/docs/pictures"
 MOST_PICTURE = 200_000
 # milliseconds; a quiet machine takes 20
 MOST_DRAWING = 500
+# the most milliseconds in which a long comparison opens
+MOST_OPENING = 1000
 # of a long text the first lines are stored, and a digest
 MOST_LINES = 30
 LONG = 100_000
@@ -64,11 +66,27 @@ def names(_):
     for sid, sub, want in [
         (0x27, 0x42, "sendKey"), (0x27, 0x43, ""), (0x27, 0x5E, ""), (0x27, 0x5F, "requestSeed"), (0x27, 0x60, "sendKey"), (0x27, 0xFE, "sendKey"), (0x27, 0x7F, ""),
         (0x19, 0x05, "reportDTCStoredDataByRecordNumber"), (0x19, 0x0A, "reportSupportedDTC"), (0x11, 0x06, ""),
+        (0x2C, 0x02, "defineByMemoryAddress"), (0x83, 0x04, "setTimingParametersToGivenValues"), (0x86, 0x85, "startResponseOnEvent"),
+        (0x86, 0x41, "onDTCStatusChange"), (0x87, 0x03, "transitionMode"), (0x87, 0x43, ""),
     ]:
         told(uds_names.sub_name(sid, sub) == want, f"the name of {sid:02X} {sub:02X}: {want}", uds_names.sub_name(sid, sub))
-    for code, want in [(0x22, "conditionsNotCorrect"), (0x73, "wrongBlockSequenceCounter"), (0x94, "negative response")]:
+    for code, want in [
+        (0x22, "conditionsNotCorrect"), (0x73, "wrongBlockSequenceCounter"), (0x23, "negative response"), (0x50, "negative response"), (0x8E, "negative response"), (0xFF, "negative response"),
+        *[(it, "reservedByExtendedDataLinkSecurityDocument") for it in (0x38, 0x4F)], *[(it, "reservedForSpecificConditionsNotCorrect") for it in (0x94, 0xEF)],
+        *[(it, "vehicleManufacturerSpecificConditionsNotCorrect") for it in (0xF0, 0xFE)],
+    ]:
         told(uds_names.negative_name(code) == f"{want} (0x{code:02X})", f"the name of an NRC: {want}", uds_names.negative_name(code))
     told(not uds_names.NEGATIVE.keys() & uds_names.OTHER_NEGATIVE.keys(), "an NRC stands once")
+    for number, want in [
+        (0xF190, "VIN"), (0xF19F, "entityDataIdentifier"), (0xF1A0, ""), (0xF200, "periodicDataIdentifier"), (0xF3FF, "dynamicallyDefinedDataIdentifier"), (0xF40C, "OBDDataIdentifier"),
+        (0xF7FF, "OBDMonitorDataIdentifier"), (0xF8FF, "OBDInfoTypeDataIdentifier"), (0xFA12, "EDRDeviceAddressInformation"), (0xFA18, "EDREntries"), (0xFF00, "UDSVersion"), (0x0100, ""),
+    ]:
+        told(uds_names.identifier_name(number) == want, f"the name of an identifier: {number:04X} {want}", uds_names.identifier_name(number))
+    for number, want in [
+        (0xFF00, "eraseMemory"), (0xFF01, "checkProgrammingDependencies"), (0xFF02, "eraseMirrorMemoryDTCs"), (0xFF03, ""), (0x0200, "vehicleManufacturerSpecific"),
+        (0xDFFF, "vehicleManufacturerSpecific"), (0xE1FF, "OBDTestIds"), (0xE202, "safetySystemRoutineIDs"), (0x00FF, ""), (0xE300, ""), (0xFEFF, "systemSupplierSpecific"),
+    ]:
+        told(uds_names.routine_name(number) == want, f"the name of a routine: {number:04X} {want}", uds_names.routine_name(number))
 
 
 # ---- the texts of the worked examples
@@ -640,7 +658,8 @@ def long_frames(room, page):
 
 
 def wide(room, page):
-    """A chart is as wide as what it says, and scrolls; two long answers stand beside each other."""
+    """A chart of a run is as wide as what it says, and scrolls, and no less wide than the window; one of a comparison is as wide as
+    the window, and cuts two long answers so that they stand beside each other."""
     page.open(page_of(room, whole(f"{TOP}/runs/fd.toml"), whole(f"{TOP}/runs/bus/fd_long/bus.stdout")), 900, 700)
     page.ask("opened.add(0); show(); 0")
     ends = "[...document.querySelectorAll('#chart text')].map((it) => it.getBoundingClientRect().right)"
@@ -650,6 +669,18 @@ def wide(room, page):
     sides = "['sent', 'expected'].map((it) => document.querySelector(`text.differs.${it}`).getBoundingClientRect())"
     found = page.ask(f"(([one, two]) => [one.right, two.left, two.right, chart.scroller.scrollWidth])({sides})")
     told(found == sorted(found) and is_quiet(page), "two long answers beside each other", found)
+    words = page.ask("['sent', 'expected'].map((it) => document.querySelector(`text.differs.${it}`).textContent)")
+    told("\u2026 \u00b7 after 5 ms" in words[0] and words[1].endswith("\u2026"), "they are cut", words)
+    for size in (900, 1400, 2400):
+        page.open(page_of(room, bus.SETUP, behind_cut()), size, 700)
+        found = page.ask("[chart.scroller.scrollWidth, chart.scroller.clientWidth, Math.round(server) + MARGIN]")
+        told(set(found) == {size}, f"a comparison is as wide as a window of {size}", found)
+    words = page.ask("['sent', 'expected'].map((it) => document.querySelector(`text.differs.${it}`).textContent)")
+    told(not any("\u2026" in it for it in words), "nothing is cut where there is room", words)
+    for setup, text in ((whole(f"{TOP}/demo/setup.toml"), whole(f"{TOP}/demo/output.txt")), (bus.SETUP, "diag-journal 2\n0 1 P 3E00 7E00\n")):
+        page.open(page_of(room, setup, text), 2400, 700)
+        found = page.ask("[testerX(names.length - 1) + MARGIN, chart.scroller.clientWidth, chart.scroller.scrollWidth]")
+        told(len(set(found)) == 1 and is_quiet(page), "a run is as wide as the window", found)
 
 
 def later(room, page):
@@ -693,6 +724,49 @@ def beside_page(room, page):
     told(page.ask(ask)["exchanges"] == 4, "the differences alone", page.ask(ask))
     page.ask("tester0.click(); 0")
     told(page.ask(ask)["exchanges"] == 1 and is_quiet(page), "those of one tester", page.ask(ask))
+
+
+def by_keys(room, page):
+    """The keys n and p go from one difference to the next, and bring it into sight; in a list they choose there."""
+    lines = [f"{at + 1} {at:010d}.000000 A P 3E00 7E00 {'=' if at % 300 else '7F3E12'} 2 0\n" for at in range(1, 1000)]
+    page.open(page_of(room, bus.SETUP, f"{''.join(lines)}A 999 exchanges, 3 differ\n"), 1400, 700)
+    title = page.ask("[document.title, document.querySelector('h1').textContent, document.getElementById('counts').textContent]")
+    want = "run0: the recorded unit beside the server of setup"
+    told(title == [want, want, "999 exchanges \u00b7 996 agree \u00b7 3 differ \u00b7 0 negative responses"], "the title of a comparison", title)
+    state = AFTER_DRAWING % "[lit, document.querySelectorAll('g.exchange.differs.lit').length, document.getElementById('told').textContent.slice(0, 17)]"
+    for keys, item, words in [
+        ("n", 299, "line 301  \u00b7  A  \u00b7"), ("n", 599, "line 601  \u00b7  A  \u00b7"), ("p", 299, "line 301  \u00b7  A  \u00b7"), ("p", 299, "No difference abo"),
+        ("nn", 899, "line 901  \u00b7  A  \u00b7"), ("n", 899, "No difference bel"), ("x", 899, "No difference bel"),
+    ]:
+        for letter in keys:
+            page.key(letter)
+        found = page.ask(state)
+        told(found == [item, 1, words], f"the key {keys}: {item}", found)
+    page.ask("lit = -1; chart.top = 500 * STEP; 0")
+    page.key("p")
+    found = page.ask(state)
+    told(found[0] == 299, "from what is in sight", found)
+    page.ask("document.getElementById('service').focus(); 0")
+    page.key("n")
+    told(page.ask(state)[0] == 299 and is_quiet(page), "a key in a list", page.ask(state))
+    page.ask("document.getElementById('service').blur(); differences.click(); 0")
+    page.key("n")
+    told(page.ask(state)[0] == 599, "among differences alone", page.ask(state))
+
+
+def long_comparison(room, page):
+    """A comparison of many exchanges is open within a second, and its end can be gone to."""
+    lines = (f"{at + 1} {100 + at // 100:010d}.{at % 100:02d}0000 A P 22F40C 62F40C{at * 7919:010X} {'=' if at % 1000 else '7F2231'} {at % 50} 0\n" for at in range(LONG))
+    path = page_of(room, bus.SETUP, f"{''.join(lines)}A {LONG} exchanges, {LONG // 1000} differ\n")
+    took = []
+    while len(took) < 5 and min(took, default=MOST_OPENING) >= MOST_OPENING:
+        page.open(path, 1400, 900)
+        took.append(page.ask("performance.getEntriesByType('navigation')[0].loadEventEnd"))
+    elements = page.ask("document.getElementsByTagName('*').length")
+    told(min(took) < MOST_OPENING and elements < 2000 and is_quiet(page), f"{LONG} exchanges are open in {min(took):.0f} ms", [took, elements])
+    page.ask("chart.scroller.scrollTop = 1e9; 0")
+    found = page.ask(AFTER_DRAWING % "[...document.querySelectorAll('text.time')].map((it) => it.textContent)")
+    told(f"line {LONG}" in found, "its end", found)
 
 
 def by_filter(room, page):
@@ -759,8 +833,9 @@ def picture_of_run(room, page):
 def picture_of_comparison(room, page):
     """The picture of README: the demo's other unit beside the server, with the difference marked."""
     found = comparison(room, whole(f"{TOP}/demo/other_unit.log"))
-    page.open(page_of(room, whole(f"{TOP}/demo/setup.toml"), found), 1000, 514)
-    page.ask("document.querySelector('h1').textContent = 'demo/other_unit.log'; lit = 10; chart.top = 5 * STEP; 0")
+    page.open(page_of(room, whole(f"{TOP}/demo/setup.toml"), found), 1000, 532)
+    page.ask("document.querySelector('h1').textContent = 'demo/other_unit.log: the recorded unit beside the server of demo/setup.toml'; 0")
+    page.ask("lit = 10; chart.top = 5 * STEP; 0")
     page.ask("chart.redraw(); document.getElementById('told').textContent = told(lit); 0")
     page.ask(AFTER_DRAWING % "0")
     return page.picture()
@@ -787,7 +862,7 @@ def pages(room):
         print(f"view: Chromium can't be used here ({it}): the pages aren't opened", flush=True)
         return
     try:
-        for group in (whole_pages, frames_page, by_mouse, long_frames, wide, later, beside_page, not_sent, by_filter, hostile, long_page, pictures):
+        for group in (whole_pages, frames_page, by_mouse, long_frames, wide, later, beside_page, by_keys, not_sent, by_filter, hostile, long_page, long_comparison, pictures):
             group(room, page)
     finally:
         page.close()

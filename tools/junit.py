@@ -1,17 +1,46 @@
 #!/usr/bin/env python3
-"""Turns what `compare` writes into JUnit XML, which build servers read: a test suite a tester, a test case an exchange,
-the difference as the failure's text. It reads standard input and writes standard output.
+"""Turns what `compare` writes into JUnit XML, which build servers read: a test
+suite a tester, a test case an exchange, the difference as the failure's text.
+It reads standard input and writes standard output.
 
     ./uds_play compare SETUP CAPTURE | tools/junit.py > report.xml
 
-The status is the one that the text tells: 0 where nothing differs, 8 where something does, 9 where nothing was compared,
-3 where the testers' lines are missing, for then the run ended by a fault, where they don't fit the exchanges, or where the
-line `nothing compared` is missing. With 9 and 3 the report has an error, so it isn't green either. The status is 7 where the
-report couldn't be written, and 1 where a word stands behind the tool's name.
+The status is the one that the text tells:
 
-An exchange that is ignored is a test case that was skipped. A test case is called as its request, the second of the same
-` (2)` behind it, so a build server follows it from one recording of a sequence to the next: of the whole text, for with
-`--differences` these numbers are of what differs alone. No part of what is proved."""
+    0   nothing differs
+    8   something differs
+    9   nothing was compared
+    3   the testers' lines, or the line `nothing compared`, are missing, since
+        the run ended by a fault; or they don't fit the exchanges
+    7   the report couldn't be written
+    1   a word stands behind the tool's name
+
+With 9 and 3 the report has an error, so it isn't green either.
+
+On GitLab, in .gitlab-ci.yml; the report is kept whatever the status is:
+
+    compare:
+      script:
+        - ./uds_play compare SETUP CAPTURE | tools/junit.py > report.xml
+      artifacts:
+        when: always
+        reports:
+          junit: report.xml
+
+On Jenkins, in a Jenkinsfile:
+
+    stage('compare') {
+      steps {
+        sh './uds_play compare SETUP CAPTURE | tools/junit.py > report.xml'
+      }
+      post { always { junit 'report.xml' } }
+    }
+
+An exchange that is ignored is a test case that was skipped. A test case is
+called as its request, the second of the same ` (2)` behind it, so a build
+server follows it from one recording of a sequence to the next: of the whole
+text, for with `--differences` these numbers are of what differs alone.
+No part of what is proved."""
 import os
 import signal
 import sys
@@ -144,16 +173,25 @@ def xml_of(report: Report) -> Lines:
     return ['<?xml version="1.0" encoding="UTF-8"?>', *element("testsuites", attributes, [line for it in suites for line in it])]
 
 
-def main() -> int:
-    ready()
-    if sys.argv[1:]:
-        print(__doc__, file=sys.stderr)
-        return 0 if sys.argv[1] in ("-h", "--help") else 1
-    report = read_report(input_lines())
+def is_written(texts: Iterable[str]) -> bool:
+    """Writes texts to standard output; whether it took them, which is told where it didn't."""
     try:
-        write_out(f"{it}\n" for it in xml_of(report))
+        write_out(texts)
     except CannotWrite as fault:
         print(f"junit: {fault}", file=sys.stderr)
+        return False
+    return True
+
+
+def main() -> int:
+    ready()
+    if sys.argv[1:] in (["-h"], ["--help"]):
+        return 0 if is_written([f"{__doc__}\n"]) else CANNOT_WRITE
+    if sys.argv[1:]:
+        print(__doc__, file=sys.stderr)
+        return 1
+    report = read_report(input_lines())
+    if not is_written(f"{it}\n" for it in xml_of(report)):
         return CANNOT_WRITE
     if report.stray:
         print(f"junit: {printable(errors_of(report)[0])}", file=sys.stderr)

@@ -2,21 +2,25 @@
 """Makes the setup by which the server answers as the unit in a recording did, and says of what it can't explain where it
 stands.
 
-    tools/learn.py [--pair REQUEST:RESPONSE[:fd][=NAME]].. [--functional ID] [--interface NAME] [--varies] CAPTURE > unit.toml
+    tools/learn.py [--pair REQUEST:RESPONSE[:FUNCTIONAL][:fd][=NAME]].. [--functional ID] [--interface NAME] [--varies] CAPTURE > unit.toml
 
 Example:
     tools/learn.py --pair 7E0:7E8=workshop --pair 7A0:7A8=end_of_line demo/other_unit.log > unit.toml
 
 CAPTURE is a recording of `candump -L`, or, where python-can is installed, one of ASC, BLF, TRC, CSV or MF4, or a data base of
 python-can (.db). The testers are the pairs that are given, or those that are found. A pair of which a frame is one of CAN FD
-talks by that, and so does one that is given as REQUEST:RESPONSE:fd=NAME. With `--interface` the frames of one interface
+talks by that, and so does one that is given as REQUEST:RESPONSE:fd=NAME. A tester has the functional identifier that is found,
+that of `--functional`, or its own, given as REQUEST:RESPONSE:FUNCTIONAL=NAME. With `--interface` the frames of one interface
 count. With `--varies` an identifier that was read with different values, and seeds that differ, aren't compared, but for
 how long they are; where the same request was refused in between, or the length changed, a row has the answers in turn, with
-`??` for each byte of the value. Without it their values come one after the other, round and round.
+`??` for each byte of the value. So has a row of another service `??` for what changed from one request to an equal one: the
+whole value where its place is known (OBD, 23, 2F, results of routines), else the bytes that changed. Without it the answers
+come one after the other, round and round.
 
 The judge is `compare` of the program that ./uds_play starts: a setup is made, compared with the recording, and what differs
 becomes rows of answers, until nothing differs or nothing gets better. The status is 0 where nothing differs; 8 where
-something does, which is told on standard error, exchange by exchange; 9 where nothing was compared; else that of the
+something does, which is told on standard error, exchange by exchange, or where the recording lacks a Consecutive frame: then
+nothing is learned of that exchange, which is told by its line; 9 where nothing was compared; else that of the
 program's fault: with 2 the setup that it doesn't take is printed. No part of what is proved."""
 import argparse
 import os
@@ -31,9 +35,10 @@ from typing import Iterable, Iterator, NoReturn, Optional
 
 sys.dont_write_bytecode = True
 sys.path.append(os.path.join(os.path.dirname(os.path.abspath(__file__)), "parts"))
-from learn_bus import ANSWER_MS, FUNCTIONAL, FUNCTIONAL_29, MOST_TESTERS, Broken, Pair, Sending
+from learn_bus import ANSWER_MS, FUNCTIONAL, FUNCTIONAL_29, MOST_TESTERS, Pair, Sending
 from learn_bus import end_of, functional_of, look, pair_of, pairs_of, sending_of
 from learn_judge import AGREES, BAD_SETUP, DIFFERS, NOTHING, Exchange, Judge, Program, Refused, Verdict, shortened
+from learn_lost import knowing, lines_at, lost_of
 from learn_model import is_left_pending, learn_model, session_of
 from learn_rows import MOST_BYTES, Plan
 from learn_setup import Row, Unit, is_apart, moment, setup_text, why_apart
@@ -200,7 +205,7 @@ def learned(unit: Unit, judge: Judge, source: str, progress: Progress) -> tuple[
         progress.at(0.4 + 0.6 * number / MOST_ROUNDS, f"{count_of(verdict)} exchanges differ")
         idle = 0 if best is None or count_of(verdict) < count_of(best[1]) else idle + 1
         best = (text, verdict, plan.left_out, unit.rows) if idle == 0 else best
-        if verdict.status != DIFFERS or idle > MOST_IDLE:
+        if verdict.status != DIFFERS or not count_of(verdict) or idle > MOST_IDLE:
             break
         is_wider, before = plan.widen(verdict.exchanges), unit.rows
         unit.rows = plan.rows(unit, verdict.exchanges)
@@ -319,17 +324,17 @@ def tell(verdict: Verdict, unit: Unit, left_out: int) -> None:
     tell_not_entered(unit)
     tell_cut_off(unit)
     tell_left_pending(verdict, unit)
-    tell_broken(unit.sending.broken)
+    tell_lost(verdict, unit)
+    for it in unit.notes:
+        say(it)
 
 
-def tell_broken(broken: Broken) -> None:
-    """Tells of the unit's messages that the recording doesn't have whole."""
-    at = moment(broken.first)
-    why = "a frame is missing, or out of order; what was asked is learned as unanswered"
-    if broken.count == 1:
-        say(f"a message of the unit breaks off, begun at {at}: {why}")
-    elif broken.count:
-        say(f"{broken.count} messages of the unit break off, the first begun at {at}: {why}")
+def tell_lost(verdict: Verdict, unit: Unit) -> None:
+    """Tells of the messages that lack a frame."""
+    for it, of in verdict.lost[:MOST_TOLD]:
+        say(it.told(of, unit.pairs[it.place].name))
+    if len(verdict.lost) > MOST_TOLD:
+        say(f"and {len(verdict.lost) - MOST_TOLD} more messages lack a frame")
 
 
 def refused(fault: Refused) -> int:
@@ -359,7 +364,7 @@ class NoTester(Exception):
     """There is no tester in a recording; with what helps."""
 
 
-def refuse(program: str, path: str, room: str, interface: Optional[str]) -> None:
+def refuse(program: str, path: str, room: str, interface: Optional[str]) -> NoReturn:
     """Has the program tell what is wrong with a recording in which no tester is found; NoTester where it takes it."""
     pair = Pair(0x7E0, 0x7E8, name="tester")
     verdict = Program(program, path, room, [pair.name], interface)(setup_text(Unit([pair], None, Sending()), ""))
@@ -383,9 +388,14 @@ def unit_of(path: str, given: list[Pair], words: argparse.Namespace, progress: P
         narrow, wide = (narrow, functional) if is_wide else (functional, wide)
         if all(it.is_extended != is_wide for it in pairs):
             say(f"--functional {functional:X} has no effect: no tester here has identifiers of {29 if is_wide else 11} bits")
+        elif all(it.functional is not None for it in pairs if it.is_extended == is_wide):
+            say(f"--functional {functional:X} has no effect: --pair gives each tester its own")
     sending = sending_of(progress.through(path, 0.12, 0.2, "how they send"), pairs, interface)
+    losses, order = sending.losses, sending.order
+    lines = lines_at(path, [*(it.at for it in losses.found), *order.late[:1], *order.twice[:1]])
+    lost = lost_of(losses, lines, map(Pair.texts, pairs))
     is_all_fd = f"{narrow or FUNCTIONAL:03X}" in sight.by_fd, f"{wide or FUNCTIONAL_29:08X}" in sight.by_fd
-    return Unit(pairs, narrow, sending, varies=words.varies, functional_29=wide, is_all_fd=is_all_fd, end=end_of(path))
+    return Unit(pairs, narrow, sending, varies=words.varies, functional_29=wide, is_all_fd=is_all_fd, end=end_of(path), lost=lost, notes=list(order.notes(lines)))
 
 
 def program() -> str:
@@ -415,7 +425,7 @@ class CommandLine(argparse.ArgumentParser):
 
 def arguments(given: Optional[list[str]]) -> argparse.Namespace:
     words = CommandLine(description=__doc__, formatter_class=argparse.RawDescriptionHelpFormatter)
-    words.add_argument("--pair", action="append", default=[], metavar="REQUEST:RESPONSE[:fd][=NAME]", help="a tester; may stand several times")
+    words.add_argument("--pair", action="append", default=[], metavar="REQUEST:RESPONSE[:FUNCTIONAL][:fd][=NAME]", help="a tester; may stand several times")
     words.add_argument("--functional", type=identifier_of, metavar="ID", help="the functional identifier, in hex")
     words.add_argument("--interface", metavar="NAME", help="takes the frames of this interface alone")
     words.add_argument("--varies", action="store_true", help="values and seeds that change aren't compared")
@@ -424,29 +434,25 @@ def arguments(given: Optional[list[str]]) -> argparse.Namespace:
     return words.parse_args(given)
 
 
-def main(given: Optional[list[str]] = None) -> int:
-    """Runs the tool by these words, or by those of the command line; returns its status."""
-    ready()
-    words, progress = arguments(given), Progress()
-    words.program = words.program or program()
-    if not os.access(words.program, os.X_OK):
-        say(f"{words.program} isn't built: ./uds_play builds it")
-        return 2
+def learned_unit(words: argparse.Namespace, pairs: list[Pair], room: str, progress: Progress) -> tuple[Unit, str, Verdict, int]:
+    """The unit of the command line's recording, its setup, what the judge says of that, and how many rows found no room."""
+    path = converted(words.capture, room)
     try:
-        pairs = [pair_of(it) for it in words.pair]
-    except ValueError as fault:
-        say(f"--pair {fault}")
-        return 1
+        unit = unit_of(path, pairs, words, progress)
+    except NoTester:
+        refuse(words.program, path, room, words.interface)
+    progress.at(0.2, "the exchanges")
+    judge = Program(words.program, path, room, [it.name for it in unit.pairs], words.interface)
+    source = plain(os.path.basename(words.capture))
+    return unit, *learned(unit, knowing(judge, unit.lost), source, progress)
+
+
+def run(words: argparse.Namespace, pairs: list[Pair]) -> int:
+    """Makes the setup, prints it, and tells what differs; the status."""
+    progress = Progress()
     with tempfile.TemporaryDirectory() as room:
         try:
-            path = converted(words.capture, room)
-            try:
-                unit = unit_of(path, pairs, words, progress)
-            except NoTester:
-                refuse(words.program, path, room, words.interface)
-            progress.at(0.2, "the exchanges")
-            judge = Program(words.program, path, room, [it.name for it in unit.pairs], words.interface)
-            text, verdict, left_out = learned(unit, judge, plain(os.path.basename(words.capture)), progress)
+            unit, text, verdict, left_out = learned_unit(words, pairs, room, progress)
         except NoTester as fault:
             say(str(fault))
             return NOTHING
@@ -463,7 +469,23 @@ def main(given: Optional[list[str]] = None) -> int:
     if not is_printed(text):
         return 7
     tell(verdict, unit, left_out)
-    return verdict.status if verdict.status in (DIFFERS, NOTHING) else AGREES
+    return DIFFERS if verdict.lost else verdict.status if verdict.status in (DIFFERS, NOTHING) else AGREES
+
+
+def main(given: Optional[list[str]] = None) -> int:
+    """Runs the tool by these words, or by those of the command line; returns its status."""
+    ready()
+    words = arguments(given)
+    words.program = words.program or program()
+    if not os.access(words.program, os.X_OK):
+        say(f"{words.program} isn't built: ./uds_play builds it")
+        return 2
+    try:
+        pairs = [pair_of(it) for it in words.pair]
+    except ValueError as fault:
+        say(f"--pair {fault}")
+        return 1
+    return run(words, pairs)
 
 
 if __name__ == "__main__":

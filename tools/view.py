@@ -6,8 +6,8 @@
 
 RUN is what `serial`, `play`, `bus` or `bus --journal` wrote. The frames and the journal of one run may stand in two
 files, as `bus` writes them; without a journal the messages of the frames are shown. Of what `compare` wrote the page has
-the recorded unit and the server side by side. `-` is standard input. The page's title is the names of the files, or
-what `--title` says.
+the recorded unit and the server side by side. `-` is standard input. The page's title is the names of the files, of a comparison
+`RUN: the recorded unit beside the server of SETUP`, or what `--title` says.
 """
 import argparse
 import html
@@ -338,14 +338,15 @@ def main(given=None):
     given = words.parse_args(given)
     if [given.setup, *given.run].count("-") > 1:
         words.error("standard input can be read once: more than one file is -")
-    title = given.title or " ".join(file_name(it) for it in given.run)
     try:
         setup = read_setup(read(given.setup))
         texts = [(it, read_lines(it)) for it in given.run]
         note_empty(texts)
         if len(texts) == 1 and is_report(texts[0][1]):
-            show_exchanges(setup, *texts[0], title, given.text)
+            name = f"{file_name(given.run[0])}: the recorded unit beside the server of {file_name(given.setup)}"
+            show_exchanges(setup, *texts[0], given.title or name, given.text)
         else:
+            title = given.title or " ".join(file_name(it) for it in given.run)
             show_run(setup, read_run(setup, texts), title, given.text)
     except (Wrong, OSError) as fault:
         print(f"view: {fault if isinstance(fault, Wrong) else fault_words(fault)}", file=sys.stderr)

@@ -5,6 +5,8 @@ from collections import Counter, defaultdict
 from dataclasses import dataclass, field, replace
 from typing import Iterable, Iterator, Optional
 
+from learn_frames import LENGTHS, frames_of, length_of, message_at
+from learn_lost import Losses, Order
 from uds_names import OTHERS, SERVICES
 
 # a request's answer comes within a second
@@ -16,12 +18,12 @@ LONGEST_LINE = 4098
 # the most testers of a setup
 MOST_TESTERS = 8
 PAIR = re.compile(
-    r"(?:0x)?(?P<request>[0-9A-F]{3}|[0-9A-F]{8}):(?:0x)?(?P<response>[0-9A-F]{3}|[0-9A-F]{8})(?P<fd>:fd)?(?:=(?P<name>[A-Z0-9_]{1,16}))?",
+    r"(?:0x)?(?P<request>[0-9A-F]{3}|[0-9A-F]{8}):(?:0x)?(?P<response>[0-9A-F]{3}|[0-9A-F]{8})"
+    r"(?::(?:0x)?(?P<functional>[0-9A-F]{3}|[0-9A-F]{8}))?(?P<fd>:fd)?(?:=(?P<name>[A-Z0-9_]{1,16}))?",
     re.IGNORECASE | re.ASCII,
 )
-# how a SingleFrame or a FirstFrame begins, one of more than 8 bytes too; and how long the frames of a long message may be
+# how a SingleFrame or a FirstFrame begins, one of more than 8 bytes too
 BEGINNING = "0[1-7]|00(?:0[89A-F]|[12][0-9A-F]|3[0-9A-E])|1[0-9A-F][0-9A-F]{2}"
-LENGTHS = (8, 12, 16, 20, 24, 32, 48, 64)
 REQUESTS = {f"{sid:02X}": f"{sid:02X}" for sid in [*SERVICES, *OTHERS]}
 POSITIVES = {f"{sid + 0x40:02X}": f"{sid:02X}" for sid in [*SERVICES, *OTHERS] if sid < 0xBF}
 # functional identifiers of ISO 15765-4
@@ -38,18 +40,23 @@ USUAL_RESPONSES = {*(f"{it:03X}" for it in range(0x7E8, 0x7F0)), *(f"18DAF1{it:0
 @dataclass(frozen=True)
 class Pair:
     """The identifiers of a tester's requests and of the unit's answers to it, and the tester's name. Of 29 bits where
-    `is_extended`; they talk by CAN FD where `is_fd`."""
+    `is_extended`; they talk by CAN FD where `is_fd`. The tester's own functional identifier, None where it has that of all."""
 
     request: int
     response: int
     is_extended: bool = False
     name: str = ""
     is_fd: bool = False
+    functional: Optional[int] = None
 
     def texts(self) -> tuple[str, str]:
         """Its identifiers as lines have them."""
         wide = 8 if self.is_extended else 3
         return f"{self.request:0{wide}X}", f"{self.response:0{wide}X}"
+
+    def functional_text(self) -> str:
+        """Its own functional identifier as lines have it, empty where it has none."""
+        return "" if self.functional is None else f"{self.functional:0{8 if self.is_extended else 3}X}"
 
     def shown(self) -> str:
         return ":".join(self.texts())
@@ -64,26 +71,15 @@ class Pair:
 
 
 def pair_of(text: str) -> Pair:
-    """The pair that the command line gives as REQUEST:RESPONSE[:fd][=NAME]. ValueError where it is none."""
+    """The pair that the command line gives as REQUEST:RESPONSE[:FUNCTIONAL][:fd][=NAME]. ValueError where it is none."""
     found = PAIR.fullmatch(text)
-    if not found or len(found["request"]) != len(found["response"]):
-        raise ValueError(f"{text}: it is REQUEST:RESPONSE[:fd][=NAME], with identifiers of 3 hex digits, or of 8, and a name of 1 to 16 ASCII letters, digits or _")
-    request, response = found["request"], found["response"]
-    return Pair(int(request, 16), int(response, 16), len(request) == 8, found["name"] or "", bool(found["fd"]))
-
-
-def frames_of(
-    blocks: Iterable[str], identifiers: str, data: str, interface: Optional[str] = None
-) -> Iterator[tuple[int, str, str, Optional[str]]]:
-    """The frames in blocks of whole lines whose identifier and data fit these patterns, of one interface or of any: each
-    frame's moment in milliseconds, its identifier and its data, as upper-case digits, and of CAN FD the digit of its flags."""
-    name = r"\S+" if interface is None else re.escape(interface)
-    # (a pattern that begins with letters is looked for more quickly than one that begins with a line's start)
-    pattern = re.compile(rf"\n\((\d{{1,12}})\.(\d{{3}})\d*\) +{name} +((?i:{identifiers}))#(?:#([0-9A-Fa-f]))?((?i:{data})(?:[0-9A-Fa-f]{{2}})*)")
-    for block in blocks:
-        for found in pattern.finditer("\n" + block):
-            seconds, parts, identifier, flags, digits = found.groups()
-            yield int(seconds + parts), identifier.upper(), digits.upper(), flags
+    own = [it for it in (found["request"], found["response"], found["functional"]) if it] if found else []
+    if not found or len(set(map(len, own))) > 1:
+        raise ValueError(
+            f"{text}: it is REQUEST:RESPONSE[:FUNCTIONAL][:fd][=NAME], with identifiers of 3 hex digits, or of 8, and a name of 1 to 16 ASCII letters, digits or _"
+        )
+    request, response, *functional = (int(it, 16) for it in own)
+    return Pair(request, response, len(own[0]) == 8, found["name"] or "", bool(found["fd"]), functional[0] if functional else None)
 
 
 # ---- which identifiers belong together
@@ -107,7 +103,7 @@ class Sight:
 def look(blocks: Iterable[str], interface: Optional[str] = None) -> Sight:
     """Looks at all frames that can be a SingleFrame, or the FirstFrame of an answer."""
     sight, recent = Sight(), defaultdict(dict)
-    for now, identifier, data, flags in frames_of(blocks, "[0-9A-F]{3}|[0-9A-F]{8}", BEGINNING, interface):
+    for now, identifier, data, flags, *_ in frames_of(blocks, "[0-9A-F]{3}|[0-9A-F]{8}", BEGINNING, interface):
         at = message_at(data)
         if not at:
             continue
@@ -123,15 +119,6 @@ def look(blocks: Iterable[str], interface: Optional[str] = None) -> Sight:
         if asking:
             sight.answered[asking, identifier] += 1
     return sight
-
-
-def message_at(data: str) -> int:
-    """Where the message begins among the digits of a SingleFrame or a FirstFrame; 0 of a SingleFrame that hasn't all of it. The
-    length of a message of more than 4095 bytes stands in four bytes behind `10 00`."""
-    if data[0] == "1":
-        return 12 if data[1:4] == "000" else 4
-    at, size = (4, int(data[2:4], 16)) if data[:2] == "00" else (2, int(data[1]))
-    return at if len(data) >= at + 2 * size else 0
 
 
 def service_of(identifier: str, message: str) -> Optional[str]:
@@ -205,8 +192,8 @@ def functional_of(sight: Sight, pairs: list[Pair], is_extended: bool = False) ->
     """The functional identifier of 11 bits, or of 29: of those that are of no pair, nor another unit's, the one that says
     TesterPresent to all, or that the unit answers, most often; the usual one first. None where no tester of this kind has
     one."""
-    own = {it for pair in pairs for it in pair.texts()}
-    responses = {it.texts()[1] for it in pairs if it.is_extended == is_extended}
+    own = {it for pair in pairs for it in (*pair.texts(), pair.functional_text())}
+    responses = {it.texts()[1] for it in pairs if it.is_extended == is_extended and it.functional is None}
     usual = USUAL_FUNCTIONAL[is_extended]
     count = Counter({it: many for it, many in sight.present.items() if responses and it not in own and len(it) == len(usual)})
     for (request, response), many in sight.answered.items():
@@ -231,54 +218,12 @@ def end_of(path: str) -> Optional[int]:
 
 
 @dataclass
-class Broken:
-    """Messages of several frames of the unit of which a frame isn't in the recording, or has another sequence number: how
-    many, and when the first one began, in milliseconds. What a tester didn't let come isn't among them."""
-
-    count: int = 0
-    first: int = 0
-    # of each identifier: when the message began, how many bytes are wanted still, the next sequence number, and whether the
-    # tester let them come; and the kind of its latest frame
-    open: dict[str, tuple[int, int, int, bool]] = field(default_factory=dict)
-    last: dict[str, str] = field(default_factory=dict)
-
-    def take(self, now: int, identifier: str, data: str) -> None:
-        """A frame of the unit."""
-        kind, size = data[:1], len(data) // 2
-        if kind not in ("0", "1", "2"):
-            return
-        begun, wanted, number, is_let = self.open.pop(identifier, (now, 0, 0, False))
-        if wanted and kind == "2" and int(data[1], 16) == number:
-            if wanted > size - 1:
-                self.open[identifier] = begun, wanted - (size - 1), (number + 1) % 16, True
-        elif is_let if wanted else kind == "2" and self.last.get(identifier, "2") != "2":
-            self.first = self.first if self.count else begun
-            self.count += 1
-        if kind == "1" and size in LENGTHS:
-            self.open[identifier] = now, length_of(data) - size + (2 if int(data[1:4], 16) else 6), 1, False
-        self.last[identifier] = kind
-
-    def ended_by(self, identifier: str, data: str) -> int:
-        """How many bytes of its message a frame has that ends it; 0 of one that ends none."""
-        _, wanted, number, _ = self.open.get(identifier, (0, 0, 0, False))
-        is_next = data[:1] == "2" and int(data[1], 16) == number
-        return wanted if is_next and wanted < len(data) // 2 else 0
-
-    def let(self, identifier: str, data: str) -> None:
-        """FlowControl of the tester that has the answers of this identifier."""
-        if identifier in self.open:
-            begun, wanted, number, _ = self.open.pop(identifier)
-            if data[1:2] in ("0", "1"):
-                self.open[identifier] = begun, wanted, number, True
-
-
-@dataclass
 class Sending:
     """How the unit and its testers send: the padding byte, None for none; block size and STmin of the unit's flow control, and how
     often it had which;
     the longest request that it didn't refuse by that, and the shortest that it did, None where it refused none; the longest
-    time within a request, and that for which an answer waited for flow control, in milliseconds; which messages of the unit
-    are broken; when it sent FlowControl wait; and of its frames of CAN FD the length of FirstFrames, the flags, and the byte
+    time within a request, and that for which an answer waited for flow control, in milliseconds; which messages lack
+    a frame, and which lines are out of order; when it sent FlowControl wait; and of its frames of CAN FD the length of FirstFrames, the flags, and the byte
     that fills those of more than 8 bytes, None where none was seen."""
 
     pad: Optional[int] = 0xCC
@@ -289,7 +234,8 @@ class Sending:
     too_long: Optional[int] = None
     n_cr: int = 0
     n_bs: int = 0
-    broken: Broken = field(default_factory=Broken)
+    losses: Losses = field(default_factory=Losses)
+    order: Order = field(default_factory=Order)
     paused: list[int] = field(default_factory=list)
     tx_dl: Optional[int] = None
     flags: int = 1
@@ -298,42 +244,76 @@ class Sending:
 
 def sending_of(blocks: Iterable[str], pairs: list[Pair], interface: Optional[str] = None) -> Sending:
     """How the frames of these pairs are sent."""
-    found, flows, filling, fd = Sending(), Flows(), Filling(), FdFrames()
-    requests = dict(it.texts() for it in pairs)
-    responses, by_fd = set(requests.values()), {text for it in pairs if it.is_fd for text in it.texts()}
-    last, waits = {}, {}
-    for now, identifier, data, flags in frames_of(blocks, "|".join([*requests, *responses]), "", interface):
-        if flags and identifier not in by_fd:
-            continue
-        kind = data[:1]
-        if kind == "3" and identifier in requests:
-            found.broken.let(requests[identifier], data)
-        if identifier in responses:
-            filling.take(data, found.broken.ended_by(identifier, data))
-            found.broken.take(now, identifier, data)
-            if identifier in by_fd:
-                fd.take(data, flags)
-            if kind == "3" and len(data) >= 6:
-                flows.take(now, identifier, data)
-            elif identifier in found.broken.open:
-                waits[identifier] = now
-            else:
-                waits.pop(identifier, None)
-        elif kind == "3" and requests[identifier] in waits:
-            response = requests[identifier]
-            found.n_bs = max(found.n_bs, now - waits[response])
-            # (behind FlowControl wait it goes on waiting)
-            waits[response] = now
+    hearing = Hearing(pairs)
+    for frame in frames_of(blocks, "|".join(hearing.identifiers()), "", interface):
+        hearing.take(*frame)
+    return hearing.settled()
+
+
+class Hearing:
+    """Hears the frames of some pairs, one after the other."""
+
+    def __init__(self, pairs: list[Pair]) -> None:
+        self.responses = dict(it.texts() for it in pairs)
+        self.requests = {response: request for request, response in self.responses.items()}
+        self.by_fd = {text for it in pairs if it.is_fd for text in it.texts()}
+        self.found, self.flows, self.filling, self.fd = Sending(), Flows(), Filling(), FdFrames()
+        # when a request's latest frame came; and since when an answer waits for FlowControl
+        self.last: dict[str, int] = {}
+        self.waits: dict[str, int] = {}
+
+    def identifiers(self) -> list[str]:
+        return [*self.responses, *self.requests]
+
+    def take(self, now: int, identifier: str, data: str, flags: Optional[str], at: int, rest: str) -> None:
+        """A frame, as a recording has it."""
+        if flags and identifier not in self.by_fd:
+            return
+        self.found.order.take(at, now, rest, (identifier, data))
+        if identifier in self.requests:
+            self.take_answer(now, identifier, data, flags, at)
+        else:
+            self.take_request(now, identifier, data, at)
+
+    def take_answer(self, now: int, identifier: str, data: str, flags: Optional[str], at: int) -> None:
+        """A frame of the unit."""
+        losses = self.found.losses
+        self.filling.take(data, losses.ended_by(identifier, data))
+        losses.take(at, identifier, data)
+        if identifier in self.by_fd:
+            self.fd.take(data, flags)
+        if data[:1] == "3":
+            losses.let(self.requests[identifier], data)
+        if data[:1] == "3" and len(data) >= 6:
+            self.flows.take(now, identifier, data)
+        elif identifier in losses.open:
+            self.waits[identifier] = now
+        else:
+            self.waits.pop(identifier, None)
+
+    def take_request(self, now: int, identifier: str, data: str, at: int) -> None:
+        """A frame of a tester."""
+        kind, found, response = data[:1], self.found, self.responses[identifier]
+        found.losses.take(at, identifier, data)
+        if kind == "3":
+            found.losses.let(response, data)
+            if response in self.waits:
+                found.n_bs = max(found.n_bs, now - self.waits[response])
+                # (behind FlowControl wait it goes on waiting)
+                self.waits[response] = now
         elif kind == "1":
-            last[identifier] = now
-            flows.asked(requests[identifier], length_of(data))
-        elif kind == "2" and identifier in last:
-            found.n_cr = max(found.n_cr, min(now - last[identifier], 60000))
-            last[identifier] = now
-    flows.settle(found)
-    filling.settle(found)
-    fd.settle(found)
-    return found
+            self.last[identifier] = now
+            self.flows.asked(response, length_of(data))
+        elif kind == "2" and identifier in self.last:
+            found.n_cr = max(found.n_cr, min(now - self.last[identifier], 60000))
+            self.last[identifier] = now
+
+    def settled(self) -> Sending:
+        """What was heard, once the recording is at its end."""
+        self.flows.settle(self.found)
+        self.filling.settle(self.found)
+        self.fd.settle(self.found)
+        return self.found
 
 
 @dataclass
@@ -430,9 +410,3 @@ class FdFrames:
             length = self.lengths.most_common(1)[0][0]
             found.tx_dl = next((it for it in LENGTHS if it >= length), LENGTHS[-1])
         found.flags = self.flags.most_common(1)[0][0] if self.flags else found.flags
-
-
-def length_of(data: str) -> int:
-    """The length that a FirstFrame tells."""
-    short = int(data[1:4] or "0", 16)
-    return short or int(data[4:12] or "0", 16)

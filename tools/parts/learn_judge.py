@@ -2,8 +2,11 @@
 answers it so. For tools/learn.py; no part of what is proved."""
 import subprocess
 from sys import intern
-from dataclasses import dataclass
-from typing import Callable, Iterable, Optional
+from dataclasses import dataclass, field
+from typing import TYPE_CHECKING, Callable, Iterable, Optional
+
+if TYPE_CHECKING:
+    from learn_lost import Lost
 
 AGREES, BAD_SETUP, DIFFERS, NOTHING = 0, 2, 8, 9
 # the most digits of a message that is told
@@ -31,9 +34,11 @@ class Exchange:
     expected: str
     wait: int
     pendings: int
+    # whether a frame of it isn't in the recording: then nothing is known of it
+    is_lost: bool = False
 
     def differs(self) -> bool:
-        return self.expected not in ("=", "~")
+        return self.expected not in ("=", "~") and not self.is_lost
 
     def told(self) -> str:
         """The difference in words."""
@@ -45,11 +50,13 @@ class Exchange:
 
 @dataclass
 class Verdict:
-    """What the judge says of a setup: its exchanges in the order of their lines, the status, and its notes."""
+    """What the judge says of a setup: its exchanges in the order of their lines, the status, and its notes; and the messages
+    that lack a frame, each with its exchange, None where it has none."""
 
     exchanges: list[Exchange]
     status: int
     notes: str = ""
+    lost: list[tuple["Lost", Optional[Exchange]]] = field(default_factory=list)
 
     def differing(self) -> list[Exchange]:
         return [it for it in self.exchanges if it.differs()]

@@ -31,7 +31,7 @@ def refusal(it: Exchange) -> int:
 
 def is_left_pending(it: Exchange) -> bool:
     """Whether response pending came, and no answer."""
-    return it.sent is None and it.pendings > 0
+    return it.sent is None and it.pendings > 0 and not it.is_lost
 
 
 def sub_of(it: Exchange) -> int:
@@ -297,6 +297,7 @@ def read_seed(unit: Unit, notes: Notes, it: Exchange, turn: int) -> None:
         return
     level = unit.levels.setdefault(sub, Level(Seen()))
     level.seen.at(it.line)
+    level.seeds.add(seed)
     if notes.since is not None:
         notes.delay[1] = min(notes.delay[1] or it.at, it.at - notes.since)
         notes.since, notes.wrong = None, 0
@@ -348,8 +349,10 @@ def learn_model(unit: Unit, exchanges: list[Exchange]) -> None:
         unit.asked.setdefault(it.place, Seen()).at(it.line)
         held = walk.before(it)
         reader = READERS.get(it.request[0])
-        if reader:
+        if reader and not it.is_lost:
             reader(unit, notes, it, held, walk.turns)
+        if unit.varies:
+            unit.changes.take(it)
         walk.take(it)
     unit.delay = min(between(notes.delay[0], notes.delay[1], 10000), LONGEST_TIME)
     unit.attempts = min(unit.attempts, 255)

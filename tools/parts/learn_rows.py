@@ -24,6 +24,10 @@ MOST_PENDINGS = 255
 LONGEST_AFTER = 600_000
 
 
+# services whose requests end with data: how many bytes stand before it. A row for several requests has any data there
+DATA_BEHIND = {0x24: 3, 0x27: 2, 0x2F: 4, 0x31: 4, 0x36: 2}
+# services whose positive answers are of one identifier, or of one thing that is read: no row gives them for several
+OF_ONE = (*range(1, 11), 0x23, 0x24, 0x2F)
 # services that change the session, or what is unlocked in it
 OF_THE_SESSION = (0x10, 0x11, 0x27)
 # services that change what others answer, in the order in which they are explained
@@ -57,13 +61,13 @@ class Case:
 
 
 def cases_of(unit: Unit, exchanges: list[Exchange], rows: Optional[list[Row]] = None) -> list[Case]:
-    """The exchanges that have a request, those that are alike together, in the sessions to which these rows lead; without rows
+    """The exchanges that have a request and lack no frame, those that are alike together, in the sessions to which these rows lead; without rows
     those alone that change the session, in the unit's own."""
     walk, found, deciding = Walk(unit.s3), {}, Deciding(rows or ())
     for it in exchanges:
         if it.request:
             held = walk.before(it)
-            if rows is None and it.request[0] not in OF_THE_SESSION:
+            if it.is_lost or rows is None and it.request[0] not in OF_THE_SESSION:
                 walk.take(it)
                 continue
             held = held if held.level in unit.levels or not held.level else Held(held.session)
@@ -80,8 +84,11 @@ def answer_of(unit: Unit, it: Exchange) -> str:
     it."""
     if is_left_pending(it):
         return f"7F{it.request[0]:02X}78"
+    values = values_in(unit, it) if unit.varies and it.request[0] == 0x22 else []
+    if not values:
+        return unit.changes.template(it.request, it.sent)
     text, end = (it.sent or b"").hex().upper(), 2
-    for number, value in values_in(unit, it) if unit.varies and it.request[0] == 0x22 else ():
+    for number, value in values:
         begin, end = end + 4, end + 4 + 2 * len(value)
         if number in unit.dids and unit.dids[number].changes:
             text = text[:begin] + "??" * len(value) + text[end:]
@@ -122,10 +129,22 @@ def pattern_of(requests: list[bytes]) -> str:
 def shortened(pattern: str, templates: list[str]) -> str:
     """A pattern that lets more bytes follow, without the bytes at its end that may be any and that no template names."""
     items = uds_rules.items_of(pattern.removesuffix("*"))
-    named = max((int(it[1], 16) for text in templates for it in uds_rules.items_of(text) if it[0] == "$"), default=0)
+    named = most_named(templates)
     while pattern.endswith("*") and items[-1] == ".." and len(items) > named + 1:
         items.pop()
     return "".join(items) + "*" * pattern.endswith("*")
+
+
+def opened(pattern: str, sid: int, templates: list[str]) -> str:
+    """A pattern of several requests of a service without the data at its end, but for bytes that a template names."""
+    items = uds_rules.items_of(pattern.removesuffix("*"))
+    kept = max(DATA_BEHIND.get(sid, len(items)), most_named(templates) + 1)
+    return pattern if len(items) <= kept else "".join(items[:kept]) + "*"
+
+
+def most_named(templates: list[str]) -> int:
+    """The last byte of a request that a template names; 0 for none, for the first one is the service."""
+    return max((int(it[1], 16) for text in templates for it in uds_rules.items_of(text) if it[0] == "$"), default=0)
 
 
 def template_of(cases: list[Case]) -> Optional[str]:
@@ -164,7 +183,10 @@ def entered(cases: list[Case]) -> int:
 
 def row_of(unit: Unit, cases: list[Case], templates: list[str], held: Held) -> Row:
     """The row for these exchanges, in a session and behind a level."""
-    pattern = shortened(pattern_of([it.request for it in cases]), templates)
+    pattern = pattern_of([it.request for it in cases])
+    if len({request_of(it) for it in cases}) > 1:
+        pattern = opened(pattern, cases[0].request[0], templates)
+    pattern = shortened(pattern, templates)
     return Row(pattern, templates, held.session, held.level, entered(cases), after_of(unit, cases), seen_of(cases), is_prompt(cases))
 
 
@@ -193,7 +215,7 @@ ANY = Held(0, 0)
 SPLITS: dict[str, Callable[[Case], Hashable]] = {
     "silence": lambda it: it.answer == "",
     "refusal": lambda it: it.answer.startswith("7F"),
-    "sub-function": lambda it: it.request[:2],
+    "sub-function": lambda it: it.request[: DATA_BEHIND.get(it.request[0], 2) if it.request[0] in OF_ONE else 2],
     "request": request_of,
     "session": lambda it: it.held.session,
     "level": lambda it: it.held,
@@ -239,8 +261,16 @@ def is_idle(name: str, cases: list[Case], rows: list[Row]) -> bool:
 
 
 def is_wide(cases: list[Case]) -> bool:
-    """Whether several requests are to have one row: they have their service in common, and no effect on the session."""
-    return cases[0].request[0] not in (0x10, 0x11)
+    """Whether several requests are to have one row: they have their service in common, and no effect on the session, and
+    no identifier of its own in an answer, nor what changes in one."""
+    sid = cases[0].request[0]
+    if sid in (0x10, 0x11):
+        return False
+    answers = {it.answer for it in cases if it.answer and not it.answer.startswith("7F")}
+    if sid not in OF_ONE:
+        return sid in DATA_BEHIND or not any("??" in it for it in answers)
+    size = DATA_BEHIND.get(sid, MOST_ITEMS)
+    return not answers or len({it.request[:size] for it in cases}) == 1
 
 
 def narrowed(held: Held, name: str, case: Case) -> Held:
@@ -365,6 +395,7 @@ class Plan:
         by_service = grouped(shared, lambda it: it.request[0])
         for own in by_service.values():
             found += fewest(unit, own)
+        found = merged(unit, found, cases)
         # (those of several requests stand as they were made)
         found.sort(key=lambda it: (True,) if is_wide_row(it) else rank(it))
         room = MOST_TEXT - len(setup_text(replace(unit, rows=[]), ""))
@@ -384,6 +415,73 @@ class Plan:
             rows = rows_at(unit, its, stage, self.differed[request])
             found += [replace(it, enter=0) if it.refuses() else it for it in rows] if request in self.hasty else rows
         return found
+
+
+# ---- one row for requests that differ in their data alone
+
+
+def merged(unit: Unit, rows: list[Row], cases: list[Case]) -> list[Row]:
+    """The rows, with one in place of those by which a service of the model answers requests alike that differ in their data:
+    a routine's options, or keys. Not where that row would answer as many other requests otherwise than the unit did, which then
+    want rows of their own."""
+    families = defaultdict(list)
+    for row in filter(is_of_family, rows):
+        families[head_of(row), row.session, row.level].append(row)
+    by_service = grouped(cases, lambda it: it.request[0]) if families else {}
+    for (head, *_), own in families.items():
+        near = [it for it in by_service[int(head[:2], 16)] if it.request.startswith(bytes.fromhex(head))]
+        wide = wide_row(unit, own, near)
+        if wide is None:
+            continue
+        gone = set(map(id, own))
+        others = [it for it in rows if id(it) not in gone]
+        if len(wrong_by(wide, others, near)) < len(own):
+            rows = [*others, wide]
+    return rows
+
+
+def is_of_family(row: Row) -> bool:
+    """Whether a row answers one request, of a service that the model has, positively, and the request has data at its end."""
+    sid = int(row.request[:2], 16)
+    size = DATA_BEHIND.get(sid, MOST_ITEMS)
+    is_one = not is_wide_row(row) and len(uds_rules.items_of(row.request.removesuffix("*"))) > size
+    if not is_one or sid not in SERVICES or row.enter or row.reply is None or len(row.reply) != 1:
+        return False
+    return row.reply[0].startswith(f"{sid + 0x40:02X}") and (sid != 0x27 or int(row.request[2:4], 16) % 2 == 0)
+
+
+def head_of(row: Row) -> str:
+    """What a request has before its data."""
+    return row.request[: 2 * DATA_BEHIND[int(row.request[:2], 16)]]
+
+
+def wide_row(unit: Unit, rows: list[Row], cases: list[Case]) -> Optional[Row]:
+    """The row in place of these; None where they don't answer alike. Keys have one where the seeds change, also a single one."""
+    is_key = rows[0].request.startswith("27")
+    if not is_key and len(rows) < 2:
+        return None
+    request = bytes.fromhex(head_of(rows[0]))
+    if is_key and not unit.changes.seeds_change(request[1] - 1 & 0x7F):
+        return None
+    held = Held(rows[0].session, rows[0].level)
+    exact = {known_of(it) for it in rows}
+    own = [it for it in cases if request_of(it) in exact and held in (ANY, it.held, Held(it.held.session))]
+    template = template_of(own) if own else None
+    if template is None:
+        return None
+    found = row_of(unit, own, [template], held)
+    return replace(found, request=shortened(opened(found.request, request[0], [template]), [template]))
+
+
+def known_of(row: Row) -> bytes:
+    """The request of a row of one, as `known` has it."""
+    return bytes.fromhex(row.request.removesuffix("*")) + bytes(row.request.endswith("*"))
+
+
+def wrong_by(wide: Row, others: list[Row], cases: list[Case]) -> set[bytes]:
+    """The requests of these exchanges that this row, behind the others, decides and answers otherwise than the unit did."""
+    deciding = Deciding([*sorted((it for it in others if not is_wide_row(it)), key=rank), wide])
+    return {request_of(it) for it in cases if deciding(it.request, it.held) is wide and not says(wide, it)}
 
 
 def is_wide_row(row: Row) -> bool:

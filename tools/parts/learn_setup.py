@@ -4,9 +4,12 @@ import textwrap
 from dataclasses import dataclass, field
 from typing import Iterator, Optional
 
-from learn_bus import FUNCTIONAL, FUNCTIONAL_29, LENGTHS, Pair, Sending
+from learn_bus import FUNCTIONAL, FUNCTIONAL_29, Pair, Sending
+from learn_changes import Changes
+from learn_frames import LENGTHS
 from learn_judge import Exchange
-from uds_names import IDENTIFIERS, refusal, service_name, sub_name
+from learn_lost import Lost
+from uds_names import OF_MANUFACTURER, identifier_name, refusal, routine_name, service_name, sub_name
 
 # the times of links that a setup has where it says nothing
 N_CR, N_BS, LONGEST = 1000, 1000, 4095
@@ -82,11 +85,13 @@ class Key:
 
 @dataclass
 class Level:
-    """A level: its seeds and keys in their order, and how long a key is."""
+    """A level: its seeds and keys in their order, and how long a key is; and all seeds that were sent, also those for which no
+    key came."""
 
     seen: Seen
     keys: list[Key] = field(default_factory=list)
     size: int = 4
+    seeds: set[bytes] = field(default_factory=set)
 
 
 @dataclass
@@ -126,8 +131,9 @@ class Unit:
     routines: dict[int, Routine] = field(default_factory=dict)
     levels: dict[int, Level] = field(default_factory=dict)
     rows: list[Row] = field(default_factory=list)
-    # what changes by itself isn't compared
+    # what changes by itself isn't compared, and what that is
     varies: bool = False
+    changes: Changes = field(default_factory=Changes)
     # the functional identifier of testers with 29 bits; None for the usual one
     functional_29: Optional[int] = None
     # whether testers of CAN FD have the functional identifier of 11 bits, and that of 29, where classic ones can't have it, too
@@ -137,6 +143,9 @@ class Unit:
     # when the recording ends, and the exchanges that it cuts off
     end: Optional[int] = None
     cut_off: list[Exchange] = field(default_factory=list)
+    # the messages that lack a frame, and what is noted of the order of lines
+    lost: list[Lost] = field(default_factory=list)
+    notes: list[str] = field(default_factory=list)
     # the requests of each tester, by its place, and the line that told P2 and P2*
     asked: dict[int, Seen] = field(default_factory=dict)
     told: int = 0
@@ -239,7 +248,7 @@ def changed_flow(sending: Sending) -> Iterator[str]:
 
 def free_identifier(unit: Unit, is_extended: bool = False) -> int:
     """An identifier of 11 bits, or of 29, that no tester has."""
-    own = {it for pair in unit.pairs if pair.is_extended == is_extended for it in (pair.request, pair.response)}
+    own = {it for pair in unit.pairs if pair.is_extended == is_extended for it in (pair.request, pair.response, pair.functional)}
     usual, seen = (FUNCTIONAL_29, unit.functional_29) if is_extended else (FUNCTIONAL, unit.functional)
     return next(it for it in range(0x1FFFFFFF if is_extended else 0x7FF, 0, -1) if it not in own | {usual, seen})
 
@@ -251,7 +260,7 @@ def is_mixed(unit: Unit, pair: Pair) -> bool:
 
 def is_apart(unit: Unit, pair: Pair) -> bool:
     """Whether a tester has a functional identifier that nobody uses: one of CAN FD and a classic one can't have the same."""
-    return is_mixed(unit, pair) and pair.is_fd != unit.is_all_fd[pair.is_extended]
+    return pair.functional is None and is_mixed(unit, pair) and pair.is_fd != unit.is_all_fd[pair.is_extended]
 
 
 def why_apart(unit: Unit, pair: Pair) -> str:
@@ -264,6 +273,8 @@ def why_apart(unit: Unit, pair: Pair) -> str:
 def own_functional(unit: Unit, place: int) -> tuple[Optional[int], str]:
     """The functional identifier that the table of a tester has, and a word about it; None where it needs none."""
     pair = unit.pairs[place]
+    if pair.functional is not None:
+        return pair.functional, ""
     if is_apart(unit, pair):
         return free_identifier(unit, pair.is_extended), f"  # a free one: {why_apart(unit, pair)}"
     if place in unit.unheard and not is_mixed(unit, pair):
@@ -290,7 +301,7 @@ def did_tables(unit: Unit) -> Iterator[str]:
         if it.changes and not varies and not it.is_written and f"22{number:04X}" in fitted:
             # its row says all that it is read with
             continue
-        name = IDENTIFIERS.get(number, "identifier")
+        name = identifier_name(number) or "identifier"
         yield f"\n{commented(f'{name}: {it.seen.shown()}')}[[did]]\nid = 0x{number:04X}\n"
         yield f'value = "{it.value.hex().upper()}"{as_text(it.value)}\n'
         if it.read_level:
@@ -308,7 +319,8 @@ def code_tables(unit: Unit) -> Iterator[str]:
 
 def routine_tables(unit: Unit) -> Iterator[str]:
     for number, it in sorted(unit.routines.items()):
-        yield f"\n{commented(f'routine: {it.seen.shown()}')}[[routine]]\nid = 0x{number:04X}\n"
+        name = f"routine {routine_words(number)}".rstrip()
+        yield f"\n{commented(f'{name}: {it.seen.shown()}')}[[routine]]\nid = 0x{number:04X}\n"
         yield f"time_ms = {min(between(it.least, it.most, 1), 600000)}\n"
         yield f'result = "{it.result.hex().upper()}"\n' if it.result else ""
         yield f"level = 0x{it.level:02X}\n" if it.level else ""
@@ -316,7 +328,7 @@ def routine_tables(unit: Unit) -> Iterator[str]:
 
 def level_tables(unit: Unit) -> Iterator[str]:
     for sub, it in sorted(unit.levels.items()):
-        varies = unit.varies and len({key.seed for key in it.keys}) > 1
+        varies = unit.varies and len(it.seeds) > 1
         keys = it.keys[:1] if varies else it.keys[:64]
         yield f"\n{commented(f'SecurityAccess: {it.seen.shown()}')}[[level]]\nsub = 0x{sub:02X}\n"
         yield "any_key = true\nvaries = true\n" if varies else ""
@@ -344,15 +356,26 @@ def answer_tables(unit: Unit) -> Iterator[str]:
         yield f"after_ms = {it.after}\n" if it.after else ""
 
 
+def routine_words(number: int) -> str:
+    """The name of a routine, where it has one that says more than that it is the manufacturer's."""
+    name = routine_name(number)
+    return "" if name == OF_MANUFACTURER else name
+
+
+def asked_words(pattern: str) -> str:
+    """What a pattern asks for, in words: the service, its sub-function, and its identifier or routine, as far as it has them."""
+    sid, sub, behind = int(pattern[:2], 16), pattern[2:4], pattern[4:8]
+    found = [service_name(sid), sub_name(sid, int(sub, 16)) if sub.isalnum() else ""]
+    if sid in (0x22, 0x24, 0x2E, 0x2F) and len(pattern) >= 6 and pattern[2:6].isalnum():
+        found.append(identifier_name(int(pattern[2:6], 16)))
+    if sid == 0x31 and len(behind) == 4 and behind.isalnum():
+        found.append(routine_words(int(behind, 16)))
+    return " ".join(filter(None, found))
+
+
 def row_words(row: Row) -> str:
-    """What a row is for, in words: the service, its sub-function or its identifier, and a negative response, or that no answer came."""
-    items = [row.request[at : at + 2] for at in range(0, min(len(row.request), 6), 2)]
-    sid = int(items[0], 16)
-    found = service_name(sid)
-    if len(items) > 1 and items[1].isalnum():
-        found += f" {sub_name(sid, int(items[1], 16))}".rstrip()
-    if sid in (0x22, 0x2E) and len(items) > 2 and (items[1] + items[2]).isalnum():
-        found += f" {IDENTIFIERS.get(int(items[1] + items[2], 16), '')}".rstrip()
+    """What a row is for, in words: what is asked, and a negative response, or that no answer came."""
+    sid, found = int(row.request[:2], 16), asked_words(row.request)
     replies = set(row.reply or ())
     for text, words in (("", "no answer"), (f"7F{sid:02X}78", "response pending and no answer")):
         if text in replies:

@@ -1,5 +1,5 @@
-"""The names of ISO 14229-1:2013 for services, sub-functions and negative response codes: the one table of them, which
-tools/view.py reads and docs/VIEW.md shows. No part of what is proved.
+"""The names of ISO 14229-1:2013 for services, sub-functions, identifiers, routines and negative response codes: the one table
+of them, which the tools read; docs/VIEW.md shows those of services and of codes. No part of what is proved.
 
     python3 tools/parts/uds_names.py     prints the tables as docs/VIEW.md has them
 """
@@ -11,10 +11,10 @@ class Service:
     """A service's name, and the names of its sub-functions."""
 
     name: str
-    subs: dict = field(default_factory=dict)
+    subs: dict[int, str] = field(default_factory=dict)
 
 
-def seeds_and_keys(first, last):
+def seeds_and_keys(first: int, last: int) -> dict[int, str]:
     """The sub-functions of SecurityAccess from the first to the last one."""
     return {sub: "requestSeed" if sub % 2 else "sendKey" for sub in range(first, last + 1)}
 
@@ -98,7 +98,32 @@ OTHER_SUBS = {
         4: "enableRxAndDisableTxWithEnhancedAddressInformation",
         5: "enableRxAndTxWithEnhancedAddressInformation",
     },
+    0x2C: {1: "defineByIdentifier", 2: "defineByMemoryAddress", 3: "clearDynamicallyDefinedDataIdentifier"},
+    0x83: {
+        1: "readExtendedTimingParameterSet",
+        2: "setTimingParametersToDefaultValues",
+        3: "readCurrentlyActiveTimingParameters",
+        4: "setTimingParametersToGivenValues",
+    },
+    0x86: {
+        0: "stopResponseOnEvent",
+        1: "onDTCStatusChange",
+        2: "onTimerInterrupt",
+        3: "onChangeOfDataIdentifier",
+        4: "reportActivatedEvents",
+        5: "startResponseOnEvent",
+        6: "clearResponseOnEvent",
+        7: "onComparisonOfValues",
+    },
+    0x87: {
+        1: "verifyModeTransitionWithFixedParameter",
+        2: "verifyModeTransitionWithSpecificParameter",
+        3: "transitionMode",
+    },
 }
+# the bits of a sub-function that aren't of its name: bit 7 suppresses the positive response; bit 6 of ResponseOnEvent
+# says whether the event is stored
+OF_NAME, OF_EVENT = 0x7F, 0x3F
 # the identifiers that ISO 14229-1:2013 gives a name to (annex C.1)
 IDENTIFIERS = {
     0xF180: "bootSoftwareIdentification",
@@ -131,7 +156,34 @@ IDENTIFIERS = {
     0xF19C: "calibrationEquipmentSoftwareNumber",
     0xF19D: "ECUInstallationDate",
     0xF19E: "ODXFile",
+    0xF19F: "entityDataIdentifier",
+    0xFA10: "numberOfEDRDevices",
+    0xFA11: "EDRIdentification",
+    0xFA12: "EDRDeviceAddressInformation",
+    0xFF00: "UDSVersion",
 }
+# those that have a name together: the first, the last, the name
+IDENTIFIER_RANGES = [
+    (0xF200, 0xF2FF, "periodicDataIdentifier"),
+    (0xF300, 0xF3FF, "dynamicallyDefinedDataIdentifier"),
+    (0xF400, 0xF5FF, "OBDDataIdentifier"),
+    (0xF600, 0xF7FF, "OBDMonitorDataIdentifier"),
+    (0xF800, 0xF8FF, "OBDInfoTypeDataIdentifier"),
+    (0xF900, 0xF9FF, "tachographDataIdentifier"),
+    (0xFA00, 0xFA0F, "airbagDeploymentDataIdentifier"),
+    (0xFA13, 0xFA18, "EDREntries"),
+    (0xFA19, 0xFAFF, "safetySystemDataIdentifier"),
+]
+# the routines that it gives a name to (annex F.1), and those that have a name together
+ROUTINES = {0xFF00: "eraseMemory", 0xFF01: "checkProgrammingDependencies", 0xFF02: "eraseMirrorMemoryDTCs"}
+OF_MANUFACTURER = "vehicleManufacturerSpecific"
+ROUTINE_RANGES = [
+    (0x0100, 0x01FF, "tachographTestIds"),
+    (0x0200, 0xDFFF, OF_MANUFACTURER),
+    (0xE000, 0xE1FF, "OBDTestIds"),
+    (0xE202, 0xE2FF, "safetySystemRoutineIDs"),
+    (0xF000, 0xFEFF, "systemSupplierSpecific"),
+]
 # the negative response codes that the unit gives
 NEGATIVE = {
     0x11: "serviceNotSupported",
@@ -178,44 +230,72 @@ OTHER_NEGATIVE = {
     0x92: "voltageTooHigh",
     0x93: "voltageTooLow",
 }
+# those that have a name together
+NEGATIVE_RANGES = [
+    (0x38, 0x4F, "reservedByExtendedDataLinkSecurityDocument"),
+    (0x94, 0xEF, "reservedForSpecificConditionsNotCorrect"),
+    (0xF0, 0xFE, "vehicleManufacturerSpecificConditionsNotCorrect"),
+]
 
 
-def service_name(sid):
+def name_in(ranges: list[tuple[int, int, str]], number: int, unknown: str = "") -> str:
+    """The name of the range that a number is in, or what it is called without one."""
+    return next((name for first, last, name in ranges if first <= number <= last), unknown)
+
+
+def identifier_name(number: int) -> str:
+    """The name of a data identifier; empty where it has none."""
+    return IDENTIFIERS.get(number) or name_in(IDENTIFIER_RANGES, number)
+
+
+def routine_name(number: int) -> str:
+    """The name of a routine identifier; empty where it has none."""
+    return ROUTINES.get(number) or name_in(ROUTINE_RANGES, number)
+
+
+def service_name(sid: int) -> str:
     """The service's name, or what it is called without one."""
     return SERVICES[sid].name if sid in SERVICES else OTHERS.get(sid, f"service {sid:02X}")
 
 
-def sub_name(sid, sub):
+def sub_name(sid: int, sub: int) -> str:
     """The name of a sub-function, without its bit 7; empty where it has none."""
     own = SERVICES[sid].subs if sid in SERVICES else {}
-    return {**OTHER_SUBS.get(sid, {}), **own}.get(sub & 0x7F, "")
+    return {**OTHER_SUBS.get(sid, {}), **own}.get(sub & (OF_EVENT if sid == 0x86 else OF_NAME), "")
 
 
-def refusal(code, unknown):
+def refusal(code: int, unknown: str) -> str:
     """The name of a negative response code, or what it is called without one."""
-    return {**OTHER_NEGATIVE, **NEGATIVE}.get(code, unknown)
+    return {**OTHER_NEGATIVE, **NEGATIVE}.get(code) or name_in(NEGATIVE_RANGES, code, unknown)
 
 
-def negative_name(code):
+def negative_name(code: int) -> str:
     """A negative response code by its name and number."""
     return f"{refusal(code, 'negative response')} (0x{code:02X})"
 
 
-def subs_in_words(sid, subs):
+def subs_in_words(sid: int, subs: dict[int, str]) -> str:
     """The sub-functions of a service as its row of the table has them."""
     if sid == 0x27:
         return "odd requestSeed, even sendKey"
     return ", ".join(f"{sub:02X} {name}" for sub, name in subs.items())
 
 
-def other_subs(sid, subs):
+def other_subs(sid: int, subs: dict[int, str]) -> str:
     """The sub-functions of a service that aren't in the unit, as text."""
     if sid == 0x27:
         return f"27 {min(subs):02X} to {max(subs):02X} ({subs_in_words(sid, subs)})"
     return ", ".join(f"{sid:02X} {sub:02X} {name}" for sub, name in subs.items())
 
 
-def table():
+def other_codes() -> list[str]:
+    """The negative response codes that aren't of the unit, as text, by their numbers."""
+    single = {code: f"0x{code:02X} {name}" for code, name in OTHER_NEGATIVE.items()}
+    together = {first: f"0x{first:02X} to 0x{last:02X} {name}" for first, last, name in NEGATIVE_RANGES}
+    return [text for _, text in sorted({**single, **together}.items())]
+
+
+def table() -> str:
     """The tables of docs/VIEW.md, as text."""
     rows = ["| Service | Name | Sub-functions |", "|---|---|---|"]
     rows += [f"| {sid:02X} | {it.name} | {subs_in_words(sid, it.subs)} |" for sid, it in SERVICES.items()]
@@ -223,7 +303,7 @@ def table():
     rows += ["", f"Sub-functions not in the unit: {', '.join(other_subs(sid, subs) for sid, subs in OTHER_SUBS.items())}."]
     rows += ["", "| NRC | Name |", "|---|---|"]
     rows += [f"| 0x{code:02X} | {name} |" for code, name in NEGATIVE.items()]
-    rows += ["", f"NRCs not of the unit: {', '.join(f'0x{code:02X} {name}' for code, name in OTHER_NEGATIVE.items())}."]
+    rows += ["", f"NRCs not of the unit: {', '.join(other_codes())}."]
     return "".join(f"{it}\n" for it in rows)
 
 

@@ -121,7 +121,8 @@ def columns(setup: Setup, found: list[Compared], words: Words) -> dict[str, list
         "kind": [KINDS[it.kind] for it in found],
         "ask": [words.place(ask_words(it)) for it in found],
         "sent": [words.place(sent_words(it, setup), it.sent.hex().upper() if it.sent else "") for it in found],
-        "expected": [words.place(expected_words(it, setup), expected_digits(it)) for it in found],
+        # (of most exchanges it is what the unit sent)
+        "expected": [-1 if it.expected == "=" else words.place(expected_words(it, setup), expected_digits(it)) for it in found],
         "silent": [int(is_silent(it)) for it in found],
         "wait": [-1 if it.wait is None else it.wait for it in found],
         "pendings": [it.pendings for it in found],

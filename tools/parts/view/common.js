@@ -9,6 +9,9 @@ const HIGHEST = 10_000_000;
 const colour = (place) => COLOURS[place % COLOURS.length];
 const seconds = (ms) => `${Math.floor(ms / 1000)}.${String(ms % 1000).padStart(3, "0")}`;
 
+// How many there are of something, in words.
+const many = (count, word) => `${count} ${word}${count === 1 ? "" : "s"}`;
+
 function element(name, attributes, text) {
   const it = document.createElementNS(SVG, name);
   for (const [key, value] of Object.entries(attributes)) it.setAttribute(key, value);

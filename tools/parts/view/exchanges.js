@@ -13,8 +13,10 @@ const BYTES_OF_A_LINE = 24;
 
 const stateOf = (item) => STATES[exchanges.state[item]];
 const kindOf = (item) => KINDS[exchanges.kind[item]];
-const wordsOf = (side, item) => texts[exchanges[side][item]][0];
-const digitsOf = (side, item) => texts[exchanges[side][item]][1];
+// (what the server replies stands apart where it is another answer alone)
+const isSame = (side, item) => exchanges[side][item] < 0;
+const wordsOf = (side, item) => (isSame(side, item) ? "the same" : texts[exchanges[side][item]][0]);
+const digitsOf = (side, item) => texts[exchanges[isSame(side, item) ? "sent" : side][item]][1];
 
 // What is said behind the words of the unit's answer: how long it took, and response pending before it.
 function noteOf(item) {
@@ -52,18 +54,17 @@ function piecesOf(own, other, from, to) {
 // ---- what is shown
 
 const opened = new Set();
-let rows = [], lit = -1;
-
-function isShown(item) {
-  const service = document.getElementById("service").value;
-  return document.getElementById(`tester${exchanges.place[item]}`).checked
-    && (service === "" || exchanges.service[item] === service)
-    && (!document.getElementById("differences").checked || stateOf(item) === "differs");
-}
+// the exchanges that are shown, and where the row of each begins, at last where the last one ends
+let rows = [], tops = [0], lit = -1;
 
 function show() {
+  const shown = names.map((_, place) => document.getElementById(`tester${place}`).checked);
+  const service = document.getElementById("service").value, differences = document.getElementById("differences").checked;
   rows = [];
-  for (let item = 0; item < COUNT; item++) if (isShown(item)) rows.push({ item });
+  for (let item = 0; item < COUNT; item++) {
+    const isOne = shown[exchanges.place[item]] && (service === "" || exchanges.service[item] === service);
+    if (isOne && (!differences || stateOf(item) === "differs")) rows.push(item);
+  }
   place();
 }
 
@@ -74,19 +75,18 @@ function heightOfDetails(item) {
 
 // Gives each row its place.
 function place() {
-  let y = 0;
-  for (const row of rows) {
-    row.y = y;
-    row.height = STEP + heightOfDetails(row.item);
-    y += row.height;
-  }
-  chart.total = y + HEAD;
+  tops = new Float64Array(rows.length + 1);
+  rows.forEach((item, at) => { tops[at + 1] = tops[at] + STEP + heightOfDetails(item); });
+  chart.total = tops[rows.length] + HEAD;
   chart.fit();
 }
 
+// The number of the row at a height; one too many below the last row, -1 above the first.
+const rowAt = (y) => lastAt(tops, (top) => top, y);
+
 // ---- the chart
 
-const UNIT = 170, MARGIN = 60, INSET = 10, GAP = 30, LEAST_TEXT = 330, LEAST_APART = 64, MOST_APART = 150;
+const UNIT = 170, MARGIN = 60, INSET = 10, GAP = 30, TEXT = 330, LEAST_TEXT = 160, LEAST_APART = 64, MOST_APART = 150;
 let apart = MOST_APART, first = 0, server = 0;
 const testerX = (at) => first + at * apart;
 
@@ -94,22 +94,31 @@ const testerX = (at) => first + at * apart;
 const ruler = document.createElement("canvas").getContext("2d");
 ruler.font = "600 12px system-ui, sans-serif";
 const wideOf = (words) => ruler.measureText(words).width;
-const wide = texts.map(([words]) => wideOf(words));
 
-// How far apart the unit and the server are for an exchange: its answers stand beside each other, its request above them.
-function roomOf(item) {
-  const answers = wide[exchanges.sent[item]] + wideOf(noteOf(item)) + GAP + wide[exchanges.expected[item]];
-  return Math.ceil(Math.max(answers, wide[exchanges.ask[item]])) + 2 * INSET;
+// Words, of those that are too wide as many as there is room for.
+function cut(words, room) {
+  if (wideOf(words) <= room) return words;
+  let low = 0, high = words.length;
+  while (low < high) {
+    const middle = (low + high + 1) >> 1;
+    if (wideOf(`${words.slice(0, middle)}\u2026`) <= room) low = middle;
+    else high = middle - 1;
+  }
+  return `${words.slice(0, low)}\u2026`;
 }
 
-const mostRoom = exchanges.line.reduce((most, _, item) => Math.max(most, roomOf(item)), 0);
+// The words of both answers, which stand beside each other.
+function answersOf(item) {
+  const sent = wordsOf("sent", item), note = noteOf(item), expected = wordsOf("expected", item);
+  const room = server - UNIT - 2 * INSET - GAP - wideOf(note), half = room / 2;
+  return [cut(sent, Math.max(half, room - wideOf(expected))) + note, cut(expected, Math.max(half, room - wideOf(sent)))];
+}
 
-// Sets the testers in the middle, as far apart as the window has room; returns how wide the chart is.
+// Sets the testers in the middle of the window, as far apart as it has room; returns how wide the chart is.
 function setApart() {
   const between = Math.max(names.length - 1, 0);
-  const least = Math.max(2 * LEAST_TEXT + LEAST_APART * between, mostRoom);
-  const width = Math.max(chart.scroller.clientWidth, UNIT + MARGIN + least);
-  const room = (width - UNIT - MARGIN - 2 * LEAST_TEXT) / Math.max(between, 1);
+  const width = Math.max(chart.scroller.clientWidth, UNIT + MARGIN + 2 * LEAST_TEXT + LEAST_APART * between);
+  const room = (width - UNIT - MARGIN - 2 * TEXT) / Math.max(between, 1);
   apart = Math.round(Math.min(Math.max(room, LEAST_APART), MOST_APART));
   server = width - MARGIN;
   first = Math.round((UNIT + server - apart * between) / 2);
@@ -133,8 +142,8 @@ function answer(from, to, y, item, isNone) {
   return arrow(from, to, y, { class: `reply ${state}`, stroke: colour(exchanges.place[item]) });
 }
 
-function drawRow(svg, row, y) {
-  const { item } = row, state = stateOf(item), kind = kindOf(item), x = testerX(exchanges.place[item]);
+function drawRow(svg, item, y) {
+  const state = stateOf(item), kind = kindOf(item), x = testerX(exchanges.place[item]), [sent, expected] = answersOf(item);
   const group = element("g", { class: `opens exchange ${state}${item === lit ? " lit" : ""}` });
   group.append(...timeElements(item, y));
   if (kind !== "unasked") {
@@ -142,11 +151,11 @@ function drawRow(svg, row, y) {
     group.append(arrow(x, UNIT, y + 18, how), arrow(x, server, y + 18, how));
   }
   group.append(
-    label(wordsOf("ask", item), UNIT + INSET, y + 14, "request", "sent"),
+    label(cut(wordsOf("ask", item), server - UNIT - 2 * INSET), UNIT + INSET, y + 14, "request", "sent"),
     answer(UNIT, x, y + 38, item, digitsOf("sent", item) === ""),
-    label(wordsOf("sent", item) + noteOf(item), UNIT + INSET, y + 34, state, "sent"),
+    label(sent, UNIT + INSET, y + 34, state, "sent"),
     answer(server, x, y + 38, item, exchanges.silent[item] === 1),
-    label(wordsOf("expected", item), server - INSET, y + 34, state, "expected"),
+    label(expected, server - INSET, y + 34, state, "expected"),
   );
   if (opened.has(item)) drawDetails(group, item, y + STEP);
   svg.append(group);
@@ -185,32 +194,62 @@ function drawHead(svg, width) {
 function drawChart(top, view) {
   const width = setApart();
   const svg = element("svg", { width, height: view });
-  const from = Math.max(lastAt(rows, (row) => row.y, top), 0);
+  const from = Math.max(rowAt(top), 0);
   let end = from;
-  while (end < rows.length && rows[end].y < top + view - HEAD) end++;
-  const seen = rows.slice(from, end);
-  const marked = seen.find((row) => row.item === lit);
-  if (marked) svg.append(element("rect", { x: 0, y: marked.y - top + HEAD, width, height: marked.height, class: "lit" }));
+  while (end < rows.length && tops[end] < top + view - HEAD) end++;
+  const marked = rows.slice(from, end).indexOf(lit) + from;
+  const placed = (at) => tops[at] - top + HEAD;
+  if (marked >= from) svg.append(element("rect", { x: 0, y: placed(marked), width, height: tops[marked + 1] - tops[marked], class: "lit" }));
   drawLives(svg, view);
-  for (const row of seen) drawRow(svg, row, row.y - top + HEAD);
+  for (let at = from; at < end; at++) drawRow(svg, rows[at], placed(at));
   drawHead(svg, width);
   chart.sight.replaceChildren(svg);
 }
 
-// ---- the mouse
+// ---- the mouse, and the keys
 
-function rowOfEvent(event) {
+// The exchange under the mouse; -1 where there is none.
+function itemOfEvent(event) {
   const y = event.clientY - chart.sight.getBoundingClientRect().top;
-  const row = y < HEAD ? undefined : rows[lastAt(rows, (it) => it.y, y - HEAD + chart.top)];
-  return row && y - HEAD + chart.top < row.y + row.height ? row : undefined;
+  const at = y < HEAD ? -1 : rowAt(y - HEAD + chart.top);
+  return at >= 0 && at < rows.length ? rows[at] : -1;
 }
 
-function follow(event) {
-  const row = rowOfEvent(event);
-  if (!row || row.item === lit) return;
-  lit = row.item;
+// Marks an exchange, and says what it is.
+function mark(item) {
+  lit = item;
   chart.redraw();
-  document.getElementById("told").textContent = told(lit);
+  document.getElementById("told").textContent = told(item);
+}
+
+let pointed = [-1, -1];
+
+function follow(event) {
+  // (what is scrolled under a mouse that stands still is told as a move, too)
+  const [x, y] = pointed;
+  pointed = [event.clientX, event.clientY];
+  const item = itemOfEvent(event);
+  if (item >= 0 && item !== lit && (x !== event.clientX || y !== event.clientY)) mark(item);
+}
+
+// Goes to the next row that differs, downwards by 1 or upwards by -1: from the row that is marked, else from the first in sight.
+function goToDifference(step) {
+  const marked = rows.indexOf(lit), inSight = Math.max(rowAt(chart.top), 0);
+  let at = marked >= 0 ? marked + step : step > 0 ? inSight : inSight - 1;
+  while (at >= 0 && at < rows.length && stateOf(rows[at]) !== "differs") at += step;
+  if (at < 0 || at >= rows.length) {
+    document.getElementById("told").textContent = `No difference ${step > 0 ? "below" : "above"}.`;
+    return;
+  }
+  mark(rows[at]);
+  chart.reveal(tops[at], tops[at + 1] - tops[at] + HEAD);
+}
+
+function press(event) {
+  const step = { n: 1, p: -1 }[event.key];
+  if (!step || event.ctrlKey || event.altKey || event.metaKey || event.target.tagName === "SELECT") return;
+  goToDifference(step);
+  event.preventDefault();
 }
 
 function told(item) {
@@ -219,9 +258,9 @@ function told(item) {
 }
 
 function toggle(event) {
-  const row = rowOfEvent(event);
-  if (!row) return;
-  if (!opened.delete(row.item)) opened.add(row.item);
+  const item = itemOfEvent(event);
+  if (item < 0) return;
+  if (!opened.delete(item)) opened.add(item);
   place();
 }
 
@@ -229,7 +268,8 @@ function toggle(event) {
 
 function countsInWords() {
   const count = (state) => exchanges.state.filter((it) => STATES[it] === state).length;
-  const words = [`${COUNT} exchanges`, `${count("agrees")} agree`, `${count("differs")} differ`];
+  const refused = exchanges.sent.filter((it) => texts[it][1].startsWith("7F")).length;
+  const words = [many(COUNT, "exchange"), `${count("agrees")} agree`, `${count("differs")} differ`, many(refused, "negative response")];
   if (count("ignored") > 0) words.push(`${count("ignored")} ignored`);
   return [...words, ...run.notes].join(" \u00b7 ");
 }
@@ -247,6 +287,7 @@ function fillHead() {
 const chart = new Strip("chart", drawChart);
 chart.scroller.addEventListener("mousemove", follow);
 chart.scroller.addEventListener("click", toggle);
+document.addEventListener("keydown", press);
 window.addEventListener("resize", () => chart.fit());
 fillHead();
 show();

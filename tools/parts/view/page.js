@@ -178,15 +178,17 @@ for (const bar of HAS_JOURNAL ? bars : []) {
   bar.x = right;
   right += bar.wide + 9;
 }
-const UNIT = right + 24, FIRST = UNIT + 240, MARGIN = 70, LEAST_APART = 64, MOST_APART = 210;
-let apart = MOST_APART;
-const testerX = (place) => FIRST + place * apart;
+const UNIT = right + 24, FIRST = UNIT + 240, MARGIN = 70, LEAST_APART = 64;
+let apart = LEAST_APART, last = FIRST;
+// (the last tester stands at the window's end, or as far behind it as the others need)
+const testerX = (place) => last - (names.length - 1 - place) * apart;
 
 // Sets the testers as far apart as the window has room; returns how wide the chart is.
 function setApart() {
-  const room = (chart.scroller.clientWidth - FIRST - MARGIN) / Math.max(names.length - 1, 1);
-  apart = Math.round(Math.min(Math.max(room, LEAST_APART), MOST_APART));
-  return Math.max(testerX(names.length - 1) + MARGIN, chart.scroller.clientWidth);
+  const { clientWidth } = chart.scroller, between = names.length - 1;
+  last = Math.max(clientWidth - MARGIN, FIRST + between * LEAST_APART);
+  apart = Math.floor((last - FIRST) / Math.max(between, 1));
+  return Math.max(last + MARGIN, clientWidth);
 }
 
 function label(text, y, kind) {
@@ -476,7 +478,7 @@ function countsInWords() {
   const words = [];
   if (HAS_JOURNAL) {
     const [, done, refused, suppressed, silent, empty] = outcomes;
-    words.push(`${COUNT} journal lines`, `${asked} requests`, `${done} done`, `${refused} refused`);
+    words.push(`${COUNT} journal lines`, `${asked} requests`, `${done} done`, many(refused, "negative response"));
     words.push(`${suppressed + silent + empty} without a reply`);
   }
   if (run.shows.includes("frames")) words.push(`${frames} frames of the unit`);
