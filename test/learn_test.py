@@ -892,6 +892,18 @@ class OfRecordings(unittest.TestCase):
             found = learned_of(frames(*lines, *long[-2:]))
             self.assertEqual((0, False), (found.status, "missing" in found.told), text)
 
+    def test_lost_frames_within_a_round(self) -> None:
+        """The exchange takes its place among answers in turn: those behind it are right."""
+        reads = [("22F40C", f"62F40C{at:02X}31323334353637") for at in range(5)]
+        whole = asked(*reads).splitlines(keepends=True)
+        for gone in range(5):
+            lost = [at for at, line in enumerate(whole) if "7E8#2" in line][gone]
+            lines = "".join(whole[:lost] + whole[lost + 1 :])
+            found = learned_of(lines)
+            kept = [sent for at, (_, sent) in enumerate(reads) if at != gone]
+            again = kept[max(gone - 1, 0)]
+            self.assertEqual((8, 1, {"22F40C": kept[:gone] + [again] + kept[gone:]}), (found.status, found.told.count("learn: line"), rows_of(found)), gone)
+
     def test_lost_frames_of_a_request_are_told(self) -> None:
         """Its answer isn't what nobody asked for; where there is none the tester left it off."""
         session = [(0, "7E0#021003"), (3, "7E8#065003003201F4")]

@@ -313,6 +313,7 @@ class Hearing:
         self.flows.settle(self.found)
         self.filling.settle(self.found)
         self.fd.settle(self.found)
+        self.found.losses.settle()
         return self.found
 
 

@@ -72,6 +72,10 @@ class Losses:
         if was and data[1:2] in ("0", "1"):
             self.open[identifier] = was._replace(is_let=True)
 
+    def settle(self) -> None:
+        """What is still coming in at the recording's end lacks a frame, too."""
+        self.found += [Loss(it.at, identifier, it.begin, it.number) for identifier, it in self.open.items() if it.is_let]
+
 
 @dataclass
 class Order:
@@ -144,9 +148,10 @@ class Lost:
 
 
 def lost_of(losses: Losses, lines: dict[int, int], pairs: Iterable[tuple[str, str]]) -> list[Lost]:
-    """The losses with their lines, of these pairs of a request and a response identifier."""
+    """The losses with their lines, in their order, of these pairs of a request and a response identifier."""
     places = {it: (place, it == pair[0]) for place, pair in enumerate(pairs) for it in pair}
-    return [Lost(lines[it.at], *places[it.identifier], it.begin, it.number) for it in losses.found]
+    found = sorted(losses.found, key=lambda it: it.at)
+    return [Lost(lines[it.at], *places[it.identifier], it.begin, it.number) for it in found]
 
 
 def answers(begin: str, request: bytes) -> bool:
