@@ -932,7 +932,7 @@ class OfRecordings(unittest.TestCase):
         self.assertEqual((0, "learn: note: line 6 says what the line above it says, with its stamp\n"), (twice.status, twice.told))
         order = Order()
         for at, (now, rest) in enumerate(((5, "000"), (5, "001"), (5, "001"), (4, "001"), (5, "001"), (5, "001"))):
-            order.take(at, now, rest, ("7E0", "023E80"))
+            order.take(at, now, rest, "7E0", "023E80")
         self.assertEqual(([3], [2, 5]), (order.late, order.twice))
 
     def test_numbers_of_lines(self) -> None:
