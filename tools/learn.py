@@ -31,7 +31,7 @@ import sys
 import tempfile
 import time
 from dataclasses import replace
-from typing import Iterable, Iterator, NoReturn, Optional
+from typing import Any, Iterable, Iterator, NoReturn, Optional
 
 sys.dont_write_bytecode = True
 sys.path.append(os.path.join(os.path.dirname(os.path.abspath(__file__)), "parts"))
@@ -135,7 +135,7 @@ def read_by_python_can(path: str, log: str) -> None:
         raise OSError(f"{path}: python-can can't read it: {fault}") from None
 
 
-def line_of(message) -> str:
+def line_of(message: Any) -> str:
     """A message of python-can as a line."""
     identifier = f"{message.arbitration_id:08X}" if message.is_extended_id else f"{message.arbitration_id:03X}"
     data = bytes(message.data).hex().upper()

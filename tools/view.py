@@ -17,31 +17,34 @@ import signal
 import sys
 from bisect import bisect_left
 from dataclasses import dataclass
+from typing import Any, Iterator, NoReturn, Optional
 
 sys.dont_write_bytecode = True
 sys.path.append(os.path.join(os.path.dirname(os.path.abspath(__file__)), "parts"))
 from uds_compared import is_report, read_report
 from uds_names import service_name
 from uds_rules import pending
-from uds_run import ONE_FRAME, Held, Session, Wrong, messages, read_run, read_setup, waits
+from uds_run import ONE_FRAME, Entry, Held, Message, Run, Session, Setup, Wrong, messages, read_run, read_setup, waits
 from uds_streams import fault_words, input_bytes, ready, write_out
 from uds_words import answer_words, changes, due_words, held_words, message_words, request_words, seconds
 from view_exchanges import exchanges_data, exchanges_text
 
 PAGE = os.path.join(os.path.dirname(os.path.abspath(__file__)), "parts", "view")
 KINDS = {"T": 0, "P": 1, "F": 2}
+# what the page is told of something, by its names
+Shown = dict[str, Any]
 OUTCOMES = {"passed": 0, "done": 1, "refused": 2, "suppressed": 3, "silent": 4, "empty": 5}
 
 
 # ---- the text
 
 
-def plain(name):
+def plain(name: str) -> str:
     """A tester's name without what would steer a terminal."""
     return "".join(it if it.isprintable() else "?" for it in name)
 
 
-def step_words(entry, outcome, setup):
+def step_words(entry: Entry, outcome: str, setup: Setup) -> str:
     """An entry of the journal in words."""
     if entry.kind == "T":
         return f"{entry.ticks} ms pass"
@@ -49,7 +52,7 @@ def step_words(entry, outcome, setup):
     return f"{request_words(entry.request)}{functional} -> {answer_words(entry, outcome, setup)}"
 
 
-def journal_text(setup, run):
+def journal_text(setup: Setup, run: Run) -> Iterator[str]:
     """The journal, a line a step, with when its answer is due, where that is later, and what it changes about the session
     behind `*`."""
     wide = max((len(seconds(it.time)) for it in run.entries), default=0)
@@ -65,7 +68,7 @@ def journal_text(setup, run):
         before = held
 
 
-def frames_text(setup, run):
+def frames_text(setup: Setup, run: Run) -> Iterator[str]:
     """The messages of the frames, a line a message, of several frames with the time that they took."""
     sent = messages(run.frames)
     wide = max((len(seconds(it.frames[0].time)) for it in sent), default=0)
@@ -82,15 +85,15 @@ def frames_text(setup, run):
 class Words:
     """Texts of a page, each once."""
 
-    def __init__(self):
-        self.places = {}
+    def __init__(self) -> None:
+        self.places: dict[tuple[str, str], int] = {}
 
-    def place(self, words, data=b""):
+    def place(self, words: str, data: bytes = b"") -> int:
         """Where the words stand, with the bytes of a message of more than one classic frame."""
         return self.places.setdefault((words, data.hex().upper() if len(data) > ONE_FRAME else ""), len(self.places))
 
 
-def columns(setup, run, words):
+def columns(setup: Setup, run: Run, words: Words) -> tuple[dict[str, list[int]], list[Held]]:
     """The journal by columns, and the states of the session, each once."""
     found = {it: [] for it in ("time", "place", "kind", "ask", "answer", "outcome", "held")}
     session, states = Session(setup), {Held(): 0}
@@ -118,7 +121,7 @@ class Due:
     is_reply: bool
 
 
-def due(setup, run):
+def due(setup: Setup, run: Run) -> dict[int, list[Due]]:
     """What the unit sends to each tester, by its place, in order: for each entry with a reply each response pending, and
     then the reply."""
     found = {}
@@ -130,7 +133,7 @@ def due(setup, run):
     return found
 
 
-def pair(setup, run, sent):
+def pair(setup: Setup, run: Run, sent: list[Message]) -> list[Optional[Due]]:
     """For what each message was sent, None of flow control: a tester's replies are sent in the order of the journal."""
     queues = {place: iter(own) for place, own in due(setup, run).items()}
     found = [None if it.length is None else next(queues.get(it.place, iter(())), None) for it in sent]
@@ -140,7 +143,7 @@ def pair(setup, run, sent):
     return found
 
 
-def offset(run, sent, pairs):
+def offset(run: Run, sent: list[Message], pairs: list[Optional[Due]]) -> int:
     """What the stamps of the frames are ahead of the journal's times: the first message of a run goes when it is due."""
     ahead = (it.frames[0].time - run.entries[of.at].time - of.after for it, of in zip(sent, pairs) if of is not None)
     return min(ahead, default=0)
@@ -149,15 +152,16 @@ def offset(run, sent, pairs):
 class Order:
     """Finds for a flow control frame the request that it let come: the tester's next one of several frames."""
 
-    def __init__(self, run):
+    def __init__(self, run: Run) -> None:
         self.entries = run.entries
-        self.long, self.last = {}, {}
+        self.long: dict[int, list[int]] = {}
+        self.last: dict[int, int] = {}
         for at, entry in enumerate(run.entries):
             # (a functional one is never of several)
             if entry.kind == "P" and len(entry.request) > ONE_FRAME:
                 self.long.setdefault(entry.place, []).append(at)
 
-    def before(self, message, ahead):
+    def before(self, message: Message, ahead: int) -> int:
         """The entry before which the frame is shown; without such a request, the end."""
         found = self.long.get(message.place, [])
         time = message.frames[0].time - ahead
@@ -167,7 +171,7 @@ class Order:
         )
         return found[at] if at < len(found) else len(self.entries)
 
-    def behind(self, message, at, ahead):
+    def behind(self, message: Message, at: int, ahead: int) -> int:
         """The entry before which a response pending to the request at this place is shown: the tester's next one later
         than it; without one, the end."""
         time = message.frames[0].time - ahead
@@ -178,12 +182,12 @@ class Order:
         return len(self.entries)
 
 
-def shown_frames(message, base):
+def shown_frames(message: Message, base: int) -> list[list]:
     """A message's frames for the page: the stamp, the milliseconds since `base`, the bytes."""
     return [[seconds(it.time), it.time - base, it.data.hex().upper()] for it in message.frames]
 
 
-def service_of(message):
+def service_of(message: Message) -> str:
     """The service identifier to which a message belongs, in hex; empty of flow control."""
     data = message.carried
     if message.length is None:
@@ -191,7 +195,7 @@ def service_of(message):
     return f"{data[1] if data[0] == 0x7F and len(data) > 1 else data[0] & 0xBF:02X}"
 
 
-def lone(message, before, ahead, setup):
+def lone(message: Message, before: int, ahead: int, setup: Setup) -> Shown:
     """A message without an entry, for the page; its stamp is so much ahead of the journal's times."""
     data = message.carried
     kind = "flow" if message.length is None else "done" if data[0] != 0x7F else "refused"
@@ -209,13 +213,13 @@ def lone(message, before, ahead, setup):
     }
 
 
-def late(message, of, entry, ahead, order, setup):
+def late(message: Message, of: Due, entry: Entry, ahead: int, order: Order, setup: Setup) -> Shown:
     """A reply that goes later than its request, for the page: an arrow of its own, with how long it took."""
     found = lone(message, order.behind(message, of.at, ahead), ahead, setup)
     return found | {"of": of.at, "after": found["time"] - entry.time, "cut": not message.is_whole()}
 
 
-def chart(setup, run):
+def chart(setup: Setup, run: Run) -> tuple[dict[int, list[list]], list[int], list[Shown]]:
     """The frames of replies that go with their requests, by entry; the entries of whose replies not all were sent; and the
     messages that stand alone: of no entry, response pending, and replies that go later."""
     sent = messages(run.frames)
@@ -240,14 +244,14 @@ def chart(setup, run):
     return replies, cut, sorted(rest, key=lambda it: it["before"])
 
 
-def services(run, rest):
+def services(run: Run, rest: list[Shown]) -> dict[str, str]:
     """The names of the services that were asked for, by their identifiers in hex."""
     asked = {it.request[0] for it in run.entries if it.request}
     asked |= {int(it["service"], 16) for it in rest if it["service"]}
     return {f"{it:02X}": service_name(it) for it in sorted(asked)}
 
 
-def page_data(setup, run, title):
+def page_data(setup: Setup, run: Run, title: str) -> Shown:
     """All that the page shows."""
     words = Words()
     entries, states = columns(setup, run, words)
@@ -267,12 +271,12 @@ def page_data(setup, run, title):
     }
 
 
-def part(name):
+def part(name: str) -> str:
     with open(os.path.join(PAGE, name), encoding="ascii") as it:
         return it.read()
 
 
-def page(data, name="page"):
+def page(data: Shown, name: str = "page") -> str:
     """The page of this name, which needs nothing beside itself. No text of the run can end the data's element."""
     text = json.dumps(data, separators=(",", ":")).replace("<", "\\u003c")
     title = html.escape(data["title"]).encode("ascii", "xmlcharrefreplace").decode()
@@ -282,17 +286,17 @@ def page(data, name="page"):
     return before.replace("{{title}}", title) + text + after
 
 
-def read(path):
+def read(path: str) -> str:
     with input_bytes() if path == "-" else open(path, "rb") as it:
         return it.read().decode("utf-8", "replace")
 
 
-def read_lines(path):
+def read_lines(path: str) -> str:
     """A text whose lines may end with CRLF, as they do once Windows had it."""
     return read(path).replace("\r\n", "\n")
 
 
-def show_run(setup, run, title, as_text):
+def show_run(setup: Setup, run: Run, title: str, as_text: bool) -> None:
     """Writes a run, as text or as a page."""
     if as_text:
         write_out((journal_text if "journal" in run.shows else frames_text)(setup, run))
@@ -300,7 +304,7 @@ def show_run(setup, run, title, as_text):
         write_out([page(page_data(setup, run, title))])
 
 
-def show_exchanges(setup, name, text, title, as_text):
+def show_exchanges(setup: Setup, name: str, text: str, title: str, as_text: bool) -> None:
     """Writes what `compare` wrote, as text or as a page."""
     report = read_report(text.splitlines())
     if as_text:
@@ -309,11 +313,11 @@ def show_exchanges(setup, name, text, title, as_text):
         write_out([page(exchanges_data(setup, report, name, title), "exchanges")])
 
 
-def file_name(path):
+def file_name(path: str) -> str:
     return "standard input" if path == "-" else os.path.basename(path)
 
 
-def note_empty(texts):
+def note_empty(texts: list[tuple[str, str]]) -> None:
     """Says so where there is nothing to show. It is no fault: `bus` writes nothing where the unit sends nothing."""
     if not any(text for _, text in texts):
         names = ", ".join(file_name(it) for it, _ in texts)
@@ -323,11 +327,11 @@ def note_empty(texts):
 class CommandLine(argparse.ArgumentParser):
     """The words of the command line; where they are at fault the status is 1."""
 
-    def exit(self, status=0, message=None):
+    def exit(self, status: int = 0, message: Optional[str] = None) -> NoReturn:
         super().exit(min(status, 1), message)
 
 
-def main(given=None):
+def main(given: Optional[list[str]] = None) -> int:
     """Runs the tool by these words, or by those of the command line; returns its status."""
     ready()
     words = CommandLine(description=__doc__, formatter_class=argparse.RawDescriptionHelpFormatter)

@@ -258,6 +258,7 @@ class Hearing:
         self.requests = {response: request for request, response in self.responses.items()}
         self.by_fd = {text for it in pairs if it.is_fd for text in it.texts()}
         self.found, self.flows, self.filling, self.fd = Sending(), Flows(), Filling(), FdFrames()
+        self.order = self.found.order.take
         # when a request's latest frame came; and since when an answer waits for FlowControl
         self.last: dict[str, int] = {}
         self.waits: dict[str, int] = {}
@@ -269,7 +270,7 @@ class Hearing:
         """A frame, as a recording has it."""
         if flags and identifier not in self.by_fd:
             return
-        self.found.order.take(at, now, rest, (identifier, data))
+        self.order(at, now, rest, identifier, data)
         if identifier in self.requests:
             self.take_answer(now, identifier, data, flags, at)
         else:
@@ -313,6 +314,7 @@ class Hearing:
         self.flows.settle(self.found)
         self.filling.settle(self.found)
         self.fd.settle(self.found)
+        self.found.losses.settle()
         return self.found
 
 

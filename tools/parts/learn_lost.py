@@ -9,6 +9,8 @@ from learn_judge import Exchange, Judge, Verdict, shortened
 
 # so much of a recording is read at a time
 BLOCK = 1 << 22
+# the sequence number behind each, as their digits
+BEHIND = dict(zip("0123456789ABCDEF", "123456789ABCDEF0"))
 
 
 class Loss(NamedTuple):
@@ -22,15 +24,16 @@ class Loss(NamedTuple):
     number: Optional[int]
 
 
-class Open(NamedTuple):
+@dataclass(slots=True)
+class Open:
     """A message that is coming in: where its first line begins, its first four digits, how many bytes are wanted still, the
-    next sequence number, and whether the other side let them come."""
+    next sequence number as its digit, and whether the other side let them come."""
 
     at: int
     begin: str
     wanted: int
-    number: int
-    is_let: bool
+    number: str = "1"
+    is_let: bool = False
 
 
 @dataclass
@@ -44,33 +47,49 @@ class Losses:
 
     def take(self, at: int, identifier: str, data: str) -> None:
         """A frame, whose line begins there."""
-        kind, size = data[:1], len(data) // 2
-        if kind not in ("0", "1", "2"):
-            return
+        kind = data[:1]
+        was = self.open.get(identifier)
+        if was and kind == "2" and data[1] == was.number:
+            self.go_on(was, identifier, len(data) // 2 - 1)
+        elif kind in ("0", "1", "2"):
+            self.break_off(at, identifier, kind)
+            if kind == "1" and len(data) // 2 in LENGTHS:
+                begin = message_at(data)
+                self.open[identifier] = Open(at, data[begin : begin + 4], length_of(data) - len(data) // 2 + begin // 2)
+            self.last[identifier] = kind
+
+    def go_on(self, was: Open, identifier: str, size: int) -> None:
+        """The next Consecutive frame, with so many bytes at most."""
+        was.wanted, was.number, was.is_let = was.wanted - size, BEHIND[was.number], True
+        if was.wanted <= 0:
+            del self.open[identifier]
+        self.last[identifier] = "2"
+
+    def break_off(self, at: int, identifier: str, kind: str) -> None:
+        """A frame of this kind that isn't the next one of a message."""
         was = self.open.pop(identifier, None)
-        if was and kind == "2" and int(data[1], 16) == was.number:
-            if was.wanted > size - 1:
-                self.open[identifier] = Open(was.at, was.begin, was.wanted - (size - 1), (was.number + 1) % 16, True)
-        elif was and was.is_let:
-            self.found.append(Loss(was.at, identifier, was.begin, was.number))
+        if was and was.is_let:
+            self.found.append(Loss(was.at, identifier, was.begin, int(was.number, 16)))
         elif not was and kind == "2" and self.last.get(identifier, "2") != "2":
             self.found.append(Loss(at, identifier, "", None))
-        if kind == "1" and size in LENGTHS:
-            begin = message_at(data)
-            self.open[identifier] = Open(at, data[begin : begin + 4], length_of(data) - size + begin // 2, 1, False)
-        self.last[identifier] = kind
 
     def ended_by(self, identifier: str, data: str) -> int:
         """How many bytes of its message a frame has that ends it; 0 of one that ends none."""
         was = self.open.get(identifier)
-        is_next = was is not None and data[:1] == "2" and int(data[1], 16) == was.number
+        is_next = was is not None and data[:1] == "2" and data[1] == was.number
         return was.wanted if is_next and was.wanted < len(data) // 2 else 0
 
     def let(self, identifier: str, data: str) -> None:
         """FlowControl for what this identifier sends."""
-        was = self.open.pop(identifier, None)
+        was = self.open.get(identifier)
         if was and data[1:2] in ("0", "1"):
-            self.open[identifier] = was._replace(is_let=True)
+            was.is_let = True
+        elif was:
+            del self.open[identifier]
+
+    def settle(self) -> None:
+        """What is still coming in at the recording's end lacks a frame, too."""
+        self.found += [Loss(it.at, identifier, it.begin, int(it.number, 16)) for identifier, it in self.open.items() if it.is_let]
 
 
 @dataclass
@@ -81,18 +100,19 @@ class Order:
     late: list[int] = field(default_factory=list)
     twice: list[int] = field(default_factory=list)
     latest: int = 0
-    last: tuple = ()
+    # the line above, and its data
+    last: tuple[int, str, str] = 0, "", ""
+    data: str = ""
 
-    def take(self, at: int, now: int, rest: str, frame: tuple[str, str]) -> None:
+    def take(self, at: int, now: int, rest: str, identifier: str, data: str) -> None:
         """A frame, whose line begins there, with its moment in milliseconds and what its stamp has behind that."""
         if now < self.latest:
             self.late.append(at)
         else:
             self.latest = now
-        whole = now, rest, frame
-        if whole == self.last:
+        if data == self.data and self.last == (now, rest, identifier):
             self.twice.append(at)
-        self.last = whole
+        self.data, self.last = data, (now, rest, identifier)
 
     def notes(self, lines: dict[int, int]) -> Iterable[str]:
         """What is told of it, by the numbers of these lines."""
@@ -144,9 +164,10 @@ class Lost:
 
 
 def lost_of(losses: Losses, lines: dict[int, int], pairs: Iterable[tuple[str, str]]) -> list[Lost]:
-    """The losses with their lines, of these pairs of a request and a response identifier."""
+    """The losses with their lines, in their order, of these pairs of a request and a response identifier."""
     places = {it: (place, it == pair[0]) for place, pair in enumerate(pairs) for it in pair}
-    return [Lost(lines[it.at], *places[it.identifier], it.begin, it.number) for it in losses.found]
+    found = sorted(losses.found, key=lambda it: it.at)
+    return [Lost(lines[it.at], *places[it.identifier], it.begin, it.number) for it in found]
 
 
 def answers(begin: str, request: bytes) -> bool:

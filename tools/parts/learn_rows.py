@@ -2,7 +2,7 @@
 one request, or of one service that the model lacks, are explained by as few rows as do. For tools/learn.py; no part of what
 is proved."""
 from collections import defaultdict
-from dataclasses import dataclass, replace
+from dataclasses import dataclass, field, replace
 from enum import IntEnum
 from itertools import chain, permutations
 from typing import Callable, Hashable, Iterable, Optional
@@ -46,11 +46,12 @@ class Stage(IntEnum):
 @dataclass
 class Case:
     """Exchanges of one request with one answer, in their order, the answer as a template has it, and their tester's session
-    before each."""
+    before each; and the line, the tester's place and its session of each exchange with this request that lacks a frame."""
 
     held: Held
     answer: str
     all: list[Exchange]
+    gaps: list[tuple[int, int, Held]] = field(default_factory=list)
 
     @property
     def request(self) -> bytes:
@@ -63,17 +64,21 @@ class Case:
 def cases_of(unit: Unit, exchanges: list[Exchange], rows: Optional[list[Row]] = None) -> list[Case]:
     """The exchanges that have a request and lack no frame, those that are alike together, in the sessions to which these rows lead; without rows
     those alone that change the session, in the unit's own."""
-    walk, found, deciding = Walk(unit.s3), {}, Deciding(rows or ())
+    walk, found, deciding, gaps = Walk(unit.s3), {}, Deciding(rows or ()), defaultdict(list)
     for it in exchanges:
         if it.request:
             held = walk.before(it)
-            if it.is_lost or rows is None and it.request[0] not in OF_THE_SESSION:
+            if rows is None and it.request[0] not in OF_THE_SESSION:
                 walk.take(it)
                 continue
             held = held if held.level in unit.levels or not held.level else Held(held.session)
+            if it.is_lost:
+                gaps[known(it.request)].append((it.line, it.place, held))
+                walk.take(it)
+                continue
             key = it.request, it.sent, is_left_pending(it), held
             if key not in found:
-                found[key] = Case(held, answer_of(unit, it), [])
+                found[key] = Case(held, answer_of(unit, it), [], gaps[known(it.request)])
             found[key].all.append(it)
             walk.take(it, deciding(it.request, held) if it.request[0] in OF_THE_SESSION else None)
     return list(found.values())
@@ -102,9 +107,17 @@ def grouped(cases: Iterable[Case], key: Callable[[Case], Hashable]) -> dict[Hash
     return found
 
 
-def answers_of(cases: list[Case]) -> list[str]:
-    """The answers of some cases, in the order of their exchanges."""
-    return [answer for _, _, answer in sorted((it.line, it.place, case.answer) for case in cases for it in case.all)]
+def answers_of(cases: list[Case], held: Held) -> list[str]:
+    """The answers of some cases of one request, in the order of their exchanges, as the row of a session and a level has them. One
+    that lacks a frame, and is decided by this row, too, has the answer before it, for it takes a place in the row."""
+    gaps = [(line, place, None) for line, place, of in cases[0].gaps if held.session in (0, of.session) and held.level in (0, of.level)]
+    own = [(it.line, it.place, case.answer) for case in cases for it in case.all]
+    found: list[str] = []
+    for *_, answer in sorted([*own, *gaps], key=lambda it: it[:2]):
+        if answer is not None or found:
+            found.append(found[-1] if answer is None else answer)
+    lacking = len(own) + len(gaps) - len(found)
+    return found[:1] * lacking + found
 
 
 def known(request: bytes) -> bytes:
@@ -202,7 +215,7 @@ def seen_of(cases: list[Case]) -> Seen:
 
 def in_order(unit: Unit, cases: list[Case], held: Held) -> list[Row]:
     """The answers to one request, one after the other; no row where they are too many or too long."""
-    answers = one_round(answers_of(cases))
+    answers = one_round(answers_of(cases, held))
     if len(answers) > MOST_TEMPLATES or any(len(it) > 2 * MOST_BYTES for it in answers):
         return []
     return [row_of(unit, cases, answers, held)]

@@ -5,10 +5,11 @@ import os
 import re
 import sys
 from dataclasses import dataclass, field
+from typing import Any, Container, Iterable, Optional
 
 sys.path.append(os.path.join(os.path.dirname(os.path.abspath(__file__)), "..", "..", "python"))
 from uds_names import IN_SESSION, SERVICES
-from uds_rules import rows_of, times_of
+from uds_rules import Row, Times, rows_of, times_of
 
 try:
     from uds_unit import toml
@@ -37,22 +38,22 @@ class Setup:
     of each data identifier's value, the time of each routine, the levels, the rows of answers, and the times of response
     pending. Times are milliseconds."""
 
-    names: list
-    responses: list
+    names: list[str]
+    responses: list[str]
     s3: int
-    lengths: dict
-    routines: dict
-    levels: set
-    rows: list
-    times: object
+    lengths: dict[int, int]
+    routines: dict[int, int]
+    levels: set[int]
+    rows: list[Row]
+    times: Times
 
 
-def own_id(tester, key, default=None):
+def own_id(tester: dict[str, Any], key: str, default: Optional[int] = None) -> str:
     """An identifier of a tester as it is written: with eight digits where it has 29 bits."""
     return f"{tester.get(key, default):0{8 if tester.get('extended') else 3}X}"
 
 
-def read_setup(text):
+def read_setup(text: str) -> Setup:
     """The setup of a TOML text. The program looks at all of it; here only what is used is read."""
     try:
         tree = toml.loads(text.removeprefix("\ufeff"))
@@ -83,7 +84,7 @@ class Entry:
     kind: str
     ticks: int
     request: bytes
-    reply: bytes
+    reply: Optional[bytes]
 
 
 @dataclass(slots=True)
@@ -99,13 +100,13 @@ class Frame:
 class Run:
     """The frames, the journal and the end of a run, as far as they were given. `shows` says which of them were."""
 
-    frames: list = field(default_factory=list)
-    entries: list = field(default_factory=list)
-    end: list = field(default_factory=list)
-    shows: set = field(default_factory=set)
+    frames: list[Frame] = field(default_factory=list)
+    entries: list[Entry] = field(default_factory=list)
+    end: list[str] = field(default_factory=list)
+    shows: set[str] = field(default_factory=set)
 
 
-def read_entry(found, version, clocks):
+def read_entry(found: re.Match[str], version: int, clocks: list[int]) -> Entry:
     """The entry of a line that matched; `clocks` has each tester's ticks so far."""
     stamp, place, ticks, kind, request, reply = found.groups()
     if (stamp is None) != (version == 1):
@@ -117,7 +118,7 @@ def read_entry(found, version, clocks):
     return Entry(time, place, kind or "T", int(ticks or 0), bytes.fromhex(request or ""), answer)
 
 
-def read_frame(found, setup):
+def read_frame(found: re.Match[str], setup: Setup) -> Frame:
     """The frame of a reply line that matched."""
     seconds, parts, name, identifier, data, fd_data = found.groups()
     if name not in setup.names or setup.responses[setup.names.index(name)] != identifier:
@@ -128,11 +129,11 @@ def read_frame(found, setup):
 class Reader:
     """Reads what the program wrote, line by line, into a run."""
 
-    def __init__(self, setup, run):
+    def __init__(self, setup: Setup, run: Run) -> None:
         self.setup, self.run = setup, run
         self.version, self.clocks = 0, [0] * 8
 
-    def take(self, line):
+    def take(self, line: str) -> None:
         """Takes a line in: of the frames, the journal or the end."""
         if line.startswith("("):
             self.frame(line)
@@ -146,20 +147,20 @@ class Reader:
         else:
             raise Wrong("no line of a run")
 
-    def frame(self, line):
+    def frame(self, line: str) -> None:
         found = REPLY_LINE.fullmatch(line)
         if not found:
             raise Wrong("no reply line")
         self.run.frames.append(read_frame(found, self.setup))
         self.run.shows.add("frames")
 
-    def header(self, version):
+    def header(self, version: int) -> None:
         if "journal" in self.run.shows:
             raise Wrong("a second journal")
         self.version = version
         self.run.shows.add("journal")
 
-    def entry(self, line):
+    def entry(self, line: str) -> None:
         found = ENTRY.fullmatch(line)
         if not found or not self.version:
             raise Wrong("no entry of a journal")
@@ -169,7 +170,7 @@ class Reader:
         self.run.entries.append(entry)
 
 
-def read_run(setup, texts):
+def read_run(setup: Setup, texts: Iterable[tuple[str, str]]) -> Run:
     """The run of the texts, each a pair of a name and the text: a whole output, or its frames and its journal apart."""
     run = Run()
     for name, text in texts:
@@ -193,15 +194,15 @@ class Message:
     the first one tells, None for flow control."""
 
     place: int
-    frames: list
+    frames: list[Frame]
     carried: bytes
-    length: int
+    length: Optional[int]
 
-    def is_whole(self):
+    def is_whole(self) -> bool:
         return self.length is None or len(self.carried) == self.length
 
 
-def first_of(frame):
+def first_of(frame: Frame) -> Optional[Message]:
     """The message that begins with the frame, or None where the frame begins none. In a frame of more than 8 bytes its length
     stands behind 00."""
     data = frame.data
@@ -217,7 +218,7 @@ def first_of(frame):
     return Message(frame.place, [frame], b"", None) if high == 3 else None
 
 
-def messages(frames):
+def messages(frames: Iterable[Frame]) -> list[Message]:
     """The messages of the frames, in the order in which they begin. Flow control may stand among a message's frames."""
     found, open_ones = [], {}
     for frame in frames:
@@ -243,64 +244,64 @@ class Held:
     """The session at a point of a run: its holder's place or None, the unlocked level or None, the running routines, and
     the holder's session by its number."""
 
-    holder: int = None
-    level: int = None
-    routines: tuple = ()
+    holder: Optional[int] = None
+    level: Optional[int] = None
+    routines: tuple[int, ...] = ()
     session: int = 1
 
 
 class Session:
     """The session through a journal, entry by entry, as docs/FORMATS.md tells it under Services and Answers by rules."""
 
-    def __init__(self, setup):
+    def __init__(self, setup: Setup) -> None:
         self.setup = setup
         self.next = [0] * len(setup.rows)
         # by how requests begin the rows, with their numbers, that may fit them
         self.near = {}
         self.clean()
 
-    def clean(self):
+    def clean(self) -> None:
         """As it is while nobody holds it."""
         self.holder, self.session, self.left, self.level, self.routines = None, 1, 0, None, {}
 
-    def enter(self, place, session):
+    def enter(self, place: int, session: int) -> None:
         """The tester of this place begins this session."""
         self.holder, self.session, self.left, self.level = place, session, 0, None
 
-    def held(self):
+    def held(self) -> Held:
         return Held(self.holder, self.level, tuple(sorted(self.routines)), self.session)
 
-    def deciding(self, entry):
+    def deciding(self, entry: Entry) -> Optional[int]:
         """The number of the row of answers that decides about a request, from 0; None where none does."""
         is_holder = entry.place == self.holder
         sessions, levels = (0, self.session if is_holder else 1), (0, self.level if is_holder else 0)
         near = self.rows_near(entry.request[:3])
         return next((at for at, it in near if it.session in sessions and it.level in levels and it.fits(entry.request)), None)
 
-    def rows_near(self, begin):
+    def rows_near(self, begin: bytes) -> list[tuple[int, Row]]:
         """The rows, with their numbers, whose patterns may fit a request that begins so."""
         if begin not in self.near:
             rows = self.rows_near(begin[:-1]) if begin else enumerate(self.setup.rows)
             self.near[begin] = [(at, it) for at, it in rows if all(want in (None, byte) for want, byte in zip(it.items, begin))]
         return self.near[begin]
 
-    def wait(self, entry):
+    def wait(self, entry: Entry) -> int:
         """After how many milliseconds the answer to a request goes, if there is one."""
         at = self.deciding(entry)
         return 0 if at is None else self.setup.rows[at].after
 
-    def is_past(self, row, entry):
+    def is_past(self, row: Row, entry: Entry) -> bool:
         """Whether a row leads into a session that another tester holds."""
         return row.enter > 1 and self.holder not in (None, entry.place)
 
-    def row_reply(self, at, entry):
+    def row_reply(self, at: int, entry: Entry) -> Optional[bytes]:
         """What the row of this number answers to a request, of one with templates of its own."""
         row = self.setup.rows[at]
         if self.is_past(row, entry):
             return bytes([0x7F, entry.request[0], 0x21])
         return row.filled(self.next[at], entry.request)
 
-    def take(self, entry):
+    def take(self, entry: Entry) -> str:
         """Takes an entry in; says of a request what became of it: `done`, `refused`, `suppressed`, `silent`, which is a
         refusal that isn't sent, or `empty`, to which a row answers nothing; of ticks `passed`."""
         if entry.kind == "T":
@@ -319,19 +320,19 @@ class Session:
             self.left = max(self.left, self.setup.s3 + after)
         return outcome
 
-    def pass_time(self, ticks):
+    def pass_time(self, ticks: int) -> None:
         """The holder's ticks."""
         self.routines = {it: left - ticks for it, left in self.routines.items() if left > ticks}
         self.left -= ticks
         if self.left <= 0:
             self.clean()
 
-    def outcome(self, entry):
+    def outcome(self, entry: Entry) -> str:
         if entry.reply is not None:
             return "refused" if entry.reply[0] == 0x7F else "done"
         return "silent" if entry.kind == "F" and self.is_refused(entry) else "suppressed"
 
-    def is_refused(self, entry):
+    def is_refused(self, entry: Entry) -> bool:
         """Whether a functional request without a reply was refused (0x11, 0x12, 0x31, 0x7F): else its bit 7 asked for
         none."""
         request, sid = entry.request, entry.request[0]
@@ -343,7 +344,7 @@ class Session:
             return int.from_bytes(request[2:4], "big") not in self.setup.routines
         return sid == 0x85 and len(request) == 5 and request[2:] != b"\xff\xff\xff"
 
-    def subs(self, sid):
+    def subs(self, sid: int) -> Container[int]:
         """The sub-functions that the unit has of a service."""
         if sid == 0x27:
             return self.setup.levels | {it + 1 for it in self.setup.levels}
@@ -351,7 +352,7 @@ class Session:
             return {1, 3}
         return SERVICES[sid].subs if sid in SERVICES else {}
 
-    def work(self, entry):
+    def work(self, entry: Entry) -> None:
         """What a request that the server itself took does to the session."""
         sid, sub = entry.request[0], (entry.request[1:2] or b"\0")[0] & 0x7F
         if sid == 0x11 or (sid == 0x10 and sub == 1 and entry.place == self.holder):
@@ -363,7 +364,7 @@ class Session:
         elif sid == 0x31:
             self.control(int.from_bytes(entry.request[2:4], "big"), sub)
 
-    def work_by_row(self, at, entry):
+    def work_by_row(self, at: int, entry: Entry) -> None:
         """What a row with templates of its own does to the session, and to its next template."""
         row = self.setup.rows[at]
         if self.is_past(row, entry):
@@ -374,14 +375,14 @@ class Session:
         elif row.enter == 1 and entry.place == self.holder:
             self.clean()
 
-    def control(self, routine, sub):
+    def control(self, routine: int, sub: int) -> None:
         if sub == 1:
             self.routines[routine] = self.setup.routines.get(routine, 0)
         elif sub == 2:
             self.routines.pop(routine, None)
 
 
-def waits(setup, entries):
+def waits(setup: Setup, entries: Iterable[Entry]) -> list[int]:
     """Of each entry after how many milliseconds its answer goes, 0 of ticks."""
     session, found = Session(setup), []
     for entry in entries:

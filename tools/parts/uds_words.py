@@ -1,7 +1,13 @@
 """Requests, replies and steps in words, for tools/view.py; no part of what is proved."""
+from __future__ import annotations
+
 from itertools import chain, cycle, repeat
+from typing import TYPE_CHECKING, Iterable, Iterator
 
 from uds_names import SERVICES, negative_name, service_name, sub_name
+
+if TYPE_CHECKING:
+    from uds_run import Entry, Held, Message, Setup
 
 # the most digits or letters of a part of a message that are shown
 MOST = 64
@@ -22,13 +28,13 @@ WITHOUT_REPLY = {"suppressed": "no reply (suppressed)", "silent": "no reply (ref
 SESSIONS = {2: "programming session", 3: "extended session", 4: "safety session"}
 
 
-def digits(data):
+def digits(data: bytes) -> str:
     """Bytes in hex, a long run of them cut."""
     text = data.hex().upper()
     return text if len(text) <= MOST else f"{text[: MOST - 16]}.. ({len(data)} bytes)"
 
 
-def value(data):
+def value(data: bytes) -> str:
     """A value: as text where it has four bytes or more that all are letters, digits, spaces or signs, else in hex."""
     is_text = len(data) >= 4 and all(32 <= it < 127 and it not in b'"\\' for it in data)
     if not is_text:
@@ -37,7 +43,7 @@ def value(data):
     return f'"{text}"' if len(text) <= MOST else f'"{text[: MOST - 16]}".. ({len(text)} bytes)'
 
 
-def parts(data, sizes):
+def parts(data: bytes, sizes: Iterable[int]) -> Iterator[bytes]:
     """The bytes cut in parts of these sizes, the last part what is left."""
     at = 0
     for size in sizes:
@@ -49,19 +55,19 @@ def parts(data, sizes):
         yield data[at:]
 
 
-def join(texts):
+def join(texts: Iterable[str]) -> str:
     """The texts with spaces between; of many the first and how many more."""
     texts = list(texts)
     return " ".join(texts if len(texts) <= 24 else [*texts[:16], f".. ({len(texts) - 16} more)"])
 
 
-def request_sizes(data):
+def request_sizes(data: bytes) -> Iterable[int]:
     if data[0] != 0x19:
         return REQUEST_PARTS.get(data[0], ())
     return 1, *DTC_REQUEST_PARTS.get(data[1] & 0x7F if len(data) > 1 else None, ())
 
 
-def request_digits(data):
+def request_digits(data: bytes) -> str:
     """A request in hex, in the parts of its service."""
     sid = data[0]
     sizes = repeat(2) if sid == 0x22 else request_sizes(data)
@@ -71,7 +77,7 @@ def request_digits(data):
     return join([f"{sid:02X}", *found])
 
 
-def read_values(data, setup):
+def read_values(data: bytes, setup: Setup) -> Iterator[str]:
     """What a reply to 22 has: identifiers, each with its value, whose length the setup tells."""
     at = 0
     while at < len(data):
@@ -83,42 +89,42 @@ def read_values(data, setup):
         at = end
 
 
-def reply_sizes(data):
+def reply_sizes(data: bytes) -> Iterable[int]:
     if data[0] != 0x59:
         return REPLY_PARTS.get(data[0], ())
     sub = data[1] if len(data) > 1 else None
     return chain((1, 1), cycle((3, 1))) if sub in DTC_LISTS else (1, *DTC_REPLY_PARTS.get(sub, ()))
 
 
-def reply_digits(data, setup):
+def reply_digits(data: bytes, setup: Setup) -> str:
     """A positive reply in hex, in the parts of its service, values as text."""
     found = read_values(data[1:], setup) if data[0] == 0x62 else map(digits, parts(data[1:], reply_sizes(data)))
     return join([f"{data[0]:02X}", *found])
 
 
-def service_words(data):
+def service_words(data: bytes) -> str:
     """A request's service, and its sub-function by name."""
     name = sub_name(data[0], data[1]) if len(data) > 1 else ""
     return join(filter(None, [service_name(data[0]), name]))
 
 
-def request_words(data):
+def request_words(data: bytes) -> str:
     return f"{request_digits(data)} {service_words(data)}"
 
 
-def reply_words(data, setup):
+def reply_words(data: bytes, setup: Setup) -> str:
     """A reply: in hex, a negative one by the name of its code."""
     if data[0] == 0x7F and len(data) == 3:
         return f"7F {data[1]:02X} {negative_name(data[2])}"
     return reply_digits(data, setup)
 
 
-def answer_words(entry, outcome, setup):
+def answer_words(entry: Entry, outcome: str, setup: Setup) -> str:
     """What came of a request."""
     return WITHOUT_REPLY[outcome] if entry.reply is None else reply_words(entry.reply, setup)
 
 
-def message_words(message, setup):
+def message_words(message: Message, setup: Setup) -> str:
     """A message of frames alone, without the request that it answers: so far as it was sent."""
     data = message.carried
     if message.length is None:
@@ -130,30 +136,30 @@ def message_words(message, setup):
     return join(filter(None, [reply_digits(data, setup), name, cut]))
 
 
-def flow_words(data):
+def flow_words(data: bytes) -> str:
     """A frame of flow control that the unit sent."""
     if data[:1] == b"\x30":
         return f"{data[:3].hex(' ').upper()} flow control: go on"
     return f"{data[:3].hex(' ').upper()} flow control: too long"
 
 
-def due_words(after, setup):
+def due_words(after: int, setup: Setup) -> list[str]:
     """When an answer is due that doesn't go at once, and how often response pending is before it."""
     count = len(setup.times.pendings(after))
     often = {0: "", 1: ", response pending once before"}.get(count, f", response pending {count} times before")
     return [f"due after {after} ms{often}"] if after else []
 
 
-def seconds(time):
+def seconds(time: int) -> str:
     return f"{time // 1000}.{time % 1000:03d}"
 
 
-def session_words(session):
+def session_words(session: int) -> str:
     """A holder's session by its name; without one by its number."""
     return SESSIONS.get(session, f"session {session:02X}")
 
 
-def held_words(held, setup):
+def held_words(held: Held, setup: Setup) -> str:
     """Who holds the session, with what is unlocked and runs."""
     if held.holder is None:
         return ""
@@ -162,7 +168,7 @@ def held_words(held, setup):
     return ", ".join(found + [f"routine {it:04X}" for it in held.routines])
 
 
-def changes(before, after, setup):
+def changes(before: Held, after: Held, setup: Setup) -> list[str]:
     """What a step changes about the session, in words."""
     if after.holder is None:
         return ["the session ends"] if before.holder is not None else []
