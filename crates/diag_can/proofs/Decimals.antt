@@ -1,5 +1,5 @@
 -- Numbers in decimal, with zeros before them.
-use Rattle.std.proofs.Common.{◌≡◌, ℕ, zero, suc, ◌+◌, ◌-◌, ◌/◌, ◌%◌, ◌^◌, ◌<◌, ◌≤◌, true, List, [], ◌∷◌, ◌++◌, length, get_or, replicate, length-append, append_assoc, inl, inr, refl, sym, ap, ◌∙◌, arith}
+use Rattle.std.proofs.Common.{◌≡◌, ℕ, zero, suc, ◌+◌, ◌-◌, ◌/◌, ◌%◌, ◌^◌, ◌<◌, ◌≤◌, true, List, [], ◌∷◌, ◌++◌, length, get_or, replicate, take, drop, length-append, append_assoc, inl, inr, refl, sym, ap, ◌∙◌, arith}
 use Rattle.std.specs.Fmt.{decimal}
 use Rattle.std.specs.Prelude.{codes}
 use Rattle.std.specs.Str.{bytes_eq}
@@ -7,7 +7,7 @@ use Rattle.std.proofs.lemmas.Bool.{agree_below_at, cases_lt}
 use Rattle.std.proofs.lemmas.Slice.Eq.{bytes_eq-Decides}
 use Rattle.std.proofs.lemmas.Fmt.{decimal_digit, decimal_nonempty, decimal_step}
 use Rattle.diag_can.proofs.Digits.{pow-suc}
-use Rattle.diag_can.specs.Reply.{two_digits, zero_filled}
+use Rattle.diag_can.specs.Reply.{seconds_text, thousandths_text, two_digits, zero_filled}
 use Rattle.diag_can.specs.declared.table.TheConstants.{DECIMALS}
 
 -- so many of a number's last digits
@@ -72,11 +72,17 @@ zero_filled-long n le small =
     let none : 10 - length (decimal n) ≡ 0 = (let long = more_digits 10 n le small in omega arith) in
     rw none refl
 
--- a long stamp is put together from its parts
-pub stamp_parts : (old seconds thousandths a b c d e : List ℕ) → a ≡ old ++ 40 ∷ [] → b ≡ a ++ seconds → c ≡ b ++ 46 ∷ [] → d ≡ c ++ thousandths
-    → e ≡ d ++ codes "000) "
-    → e ≡ old ++ (codes "(" ++ seconds ++ codes "." ++ thousandths ++ codes "000)" ++ codes " ")
-stamp_parts old seconds thousandths a b c d e p q r s t = rw (t, s, r, q, p) (simp append_assoc)
+-- the digits of a late stamp are put together from their parts
+pub digit_parts : (old seconds thousandths a b c d : List ℕ) → a ≡ old ++ seconds → b ≡ a ++ 46 ∷ [] → c ≡ b ++ thousandths → d ≡ c ++ codes "000"
+    → d ≡ old ++ (seconds ++ codes "." ++ thousandths ++ codes "000")
+digit_parts old seconds thousandths a b c d p q r s = rw (s, r, q, p) (simp append_assoc)
+
+-- the digits of a stamp's two parts, without the brackets
+pub seconds_digits : (n : ℕ) → n < 10 ^ 10 → take 11 (drop 1 (seconds_text n)) ≡ zero_filled 10 (decimal n) ++ codes "."
+seconds_digits n few = rw (zero_filled-digits 9 n few (omega arith)) refl
+
+pub thousandths_digits : (n : ℕ) → n < 1000 → take 6 (thousandths_text n) ≡ zero_filled 3 (decimal n) ++ codes "000"
+thousandths_digits n few = rw (zero_filled-digits 2 n few (omega arith)) refl
 
 -- ---- two digits at a time
 

@@ -13,12 +13,16 @@ zero_filled width ds = replicate (width - length ds) 48 ++ ds
 abbrev pub two_digits : ℕ → List ℕ
 two_digits n = (48 + n / 10) ∷ (48 + n % 10) ∷ []
 
--- `(SECONDS.MILLISECONDS000)` of a time in milliseconds
-abbrev pub stamp : ℕ → List ℕ
-stamp at = codes "(" ++ zero_filled 10 (decimal (at / 1000)) ++ codes "."
-    ++ zero_filled 3 (decimal (at % 1000)) ++ codes "000)"
+-- `SECONDS.MILLISECONDS000` of a time in milliseconds
+abbrev pub stamp_digits : ℕ → List ℕ
+stamp_digits at = zero_filled 10 (decimal (at / 1000)) ++ codes "."
+    ++ zero_filled 3 (decimal (at % 1000)) ++ codes "000"
 
--- the same in two parts, and a space
+-- the same in brackets
+abbrev pub stamp : ℕ → List ℕ
+stamp at = codes "(" ++ stamp_digits at ++ codes ")"
+
+-- a stamp in two parts, and a space
 abbrev pub seconds_text : ℕ → List ℕ
 seconds_text seconds = codes "(" ++ zero_filled 10 (decimal seconds) ++ codes "."
 

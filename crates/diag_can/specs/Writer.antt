@@ -1,8 +1,7 @@
 -- What a writer of reply lines keeps.
-use Rattle.std.specs.Prelude.{◌≡◌, ℕ, ◌+◌, ◌/◌, ◌%◌, ◌<◌, ◌≤◌, List, take, Option}
-use Rattle.diag_can.specs.Reply.{name_text, seconds_text, thousandths_text}
+use Rattle.std.specs.Prelude.{◌≡◌, ℕ, ◌<◌, ◌≤◌, List, take, Option}
+use Rattle.diag_can.specs.Reply.{name_text}
 use Rattle.diag_can.specs.declared.writer.Front.{Front}
-use Rattle.diag_can.specs.declared.writer.KeptStamp.{KeptStamp}
 
 -- this is kept, if anything
 pub record IsText (front : Front) (text : List ℕ) : Type 0 where
@@ -12,9 +11,3 @@ pub record IsText (front : Front) (text : List ℕ) : Type 0 where
 -- that of this name, of frames with these flags, if of CAN FD, and of this identifier
 abbrev pub IsFront : Front → List ℕ → Option ℕ → ℕ → Type 0
 IsFront front name flags id = IsText front (name_text name flags id)
-
--- the stamp of its time, and when its second began
-pub record IsStamp (stamp : KeptStamp) : Type 0 where
-  pub begun : stamp.at ≡ stamp.second + stamp.at % 1000
-  pub seconds : stamp.seconds ≡ seconds_text (stamp.at / 1000)
-  pub thousandths : stamp.thousandths ≡ thousandths_text (stamp.at % 1000)

@@ -4,7 +4,7 @@ ghost use Rattle.std.specs.Prelude.{◌≡◌, ◌<◌, ◌≤◌, ◌+◌, ◌/
 ghost use Rattle.std.specs.Fmt.{digits};
 ghost use Rattle.hex.specs.Hex.{encode_upper};
 ghost use Rattle.diag_can.specs.Identifier.{number_of};
-ghost use Rattle.diag_can.specs.Reply.{AreFlags, zero_filled, seconds_text, thousandths_text, stamp, four_bytes, id_text, mark_text, reply_line};
+ghost use Rattle.diag_can.specs.Reply.{AreFlags, zero_filled, seconds_text, thousandths_text, stamp, stamp_digits, four_bytes, id_text, mark_text, reply_line};
 
 use crate::frame::CanId;
 use crate::hex_text::{add, add_hex};
@@ -73,7 +73,7 @@ fn add_stamp(text: &mut Vec<u8>, at: u64)
     ensures capacity { vec_capacity text.new ≡ vec_capacity text.old }
 {
     if at / 1000 >= TEN_DIGITS {
-        return add_long_stamp(text, at);
+        return add_late_stamp(text, at);
     }
     add(text, &seconds_text(at / 1000));
     add(text, &thousandths_text(at % 1000));
@@ -101,19 +101,32 @@ pub(crate) fn thousandths_text(thousandths: u64) -> [u8; 8]
 
 /// The stamp of a time with more digits of seconds, and a space, where there is room.
 #[inline(always)]
-fn add_long_stamp(text: &mut Vec<u8>, at: u64)
+fn add_late_stamp(text: &mut Vec<u8>, at: u64)
     requires late { 10 ^ 10 ≤ at / 1000 }
     requires room { vec_len text.old + 32 ≤ vec_capacity text.old }
     ensures items { text.new.items ≡ text.old.items ++ (stamp at ++ codes " ") }
     ensures len { vec_len text.new ≤ vec_len text.old + 32 }
     ensures capacity { vec_capacity text.new ≡ vec_capacity text.old }
 {
-    let mut buffer = Buffer::new();
     add(text, b"(");
+    add_late_digits(text, at);
+    add(text, b") ");
+}
+
+/// Appends the digits and the point of the stamp of a time, in milliseconds, whose seconds have more than ten digits, where
+/// there is room.
+pub fn add_late_digits(text: &mut Vec<u8>, at: u64)
+    requires late { 10 ^ 10 ≤ at / 1000 }
+    requires room { vec_len text.old + 27 ≤ vec_capacity text.old }
+    ensures items { text.new.items ≡ text.old.items ++ stamp_digits at }
+    ensures len { vec_len text.new ≤ vec_len text.old + 27 }
+    ensures capacity { vec_capacity text.new ≡ vec_capacity text.old }
+{
+    let mut buffer = Buffer::new();
     add(text, buffer.format(at / 1000).as_bytes());
     add(text, b".");
     add(text, &three_digits(at % 1000));
-    add(text, b"000) ");
+    add(text, b"000");
 }
 
 /// The ten digits of a number.

@@ -35,7 +35,8 @@ pub fn behind(byte: u8, text: &[u8]) -> Option<&[u8]>
 }
 
 /// How many spaces stand at the front.
-fn space_run(text: &[u8]) -> usize
+#[inline]
+pub fn space_run(text: &[u8]) -> usize
     ensures count { result ≡ prefix_len is_space text.now }
     ensures fits { result ≤ length text.now }
 {
@@ -43,7 +44,8 @@ fn space_run(text: &[u8]) -> usize
 }
 
 /// How many bytes other than space stand at the front.
-fn word_run(text: &[u8]) -> usize
+#[inline]
+pub fn word_run(text: &[u8]) -> usize
     ensures count { result ≡ prefix_len is_no_space text.now }
     ensures fits { result ≤ length text.now }
 {

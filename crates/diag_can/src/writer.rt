@@ -1,12 +1,13 @@
 //! The lines of the frames that one tester was sent, one behind the other: what they have in common is made once.
 
-ghost use Rattle.std.specs.Prelude.{◌≡◌, ◌<◌, ◌≤◌, ◌+◌, ◌/◌, ◌^◌, ◌++◌, codes, length, take, IfOk, IsFalse, IsTrue, OnOk, OnErr, vec_len, vec_capacity};
+ghost use Rattle.std.specs.Prelude.{◌≡◌, ◌≤◌, ◌+◌, ◌++◌, codes, length, take, IfOk, OnOk, OnErr, vec_len, vec_capacity};
 ghost use Rattle.hex.specs.Hex.{encode_upper};
-ghost use Rattle.diag_can.specs.Reply.{AreFlags, reply_line, stamp};
+ghost use Rattle.diag_can.specs.Reply.{AreFlags, reply_line};
 
 use crate::frame::CanId;
 use crate::hex_text::{add, digits_of_eight};
-use crate::reply::{add_data, flags_digit, identifier, seconds_text, thousandths_text, write_line};
+use crate::kept_stamp::KeptStamp;
+use crate::reply::{add_data, flags_digit, identifier, write_line};
 use std::alloc::{AllocError, Global};
 use std::marker::Model;
 use std::mem::{self, ManuallyDrop};
@@ -16,9 +17,6 @@ const LINE_ROOM: usize = 64;
 
 /// The most bytes of a front that is kept.
 const FRONT_ROOM: usize = 24;
-
-/// The first time, in milliseconds, whose seconds have more than ten digits.
-const LATE: u64 = 10_000_000_000_000;
 
 /// `NAME ID#`, or `NAME ID##F`, at the front of some bytes; nothing of a long name.
 #[derive(Drop)]
@@ -79,92 +77,6 @@ impl Front {
     }
 }
 
-/// The stamp of a time in two parts, so that of a later one only what changes is made.
-#[derive(Drop)]
-struct KeptStamp {
-    at: u64,
-    /// When its second began.
-    second: u64,
-    seconds: [u8; 12],
-    thousandths: [u8; 8],
-}
-
-impl KeptStamp {
-    ghost use Rattle.diag_can.specs.Writer.{IsStamp};
-
-    /// That of the time 0.
-    fn new() -> KeptStamp
-        ensures { IsStamp result }
-    {
-        KeptStamp {
-            at: 0,
-            second: 0,
-            seconds: seconds_text(0),
-            thousandths: thousandths_text(0),
-        }
-    }
-
-    /// Goes to another time; whether its seconds have ten digits, so that it can.
-    #[inline(always)]
-    fn set(&mut self, at: u64) -> bool
-        requires is { IsStamp self.old }
-        ensures is { IsStamp self.new }
-        ensures at { IsTrue result → self.new.at ≡ at }
-        ensures late { IsFalse result → 10 ^ 10 ≤ at / 1000 }
-    {
-        if at == self.at {
-            return true;
-        }
-        if at >= LATE {
-            return false;
-        }
-        self.go_to(at);
-        true
-    }
-
-    /// The same of a time that it isn't at, whose seconds have ten digits.
-    #[inline(always)]
-    fn go_to(&mut self, at: u64)
-        requires early { at / 1000 < 10 ^ 10 }
-        requires is { IsStamp self.old }
-        ensures is { IsStamp self.new }
-        ensures at { self.new.at ≡ at }
-    {
-        if at < self.second || at - self.second >= 1000 {
-            return self.set_all(at);
-        }
-        self.thousandths = thousandths_text(at - self.second);
-        self.at = at;
-    }
-
-    /// Goes to a time in another second. (Not inlined, so that the first part stays in one piece of memory.)
-    #[inline(never)]
-    fn set_all(&mut self, at: u64)
-        requires early { at / 1000 < 10 ^ 10 }
-        ensures is { IsStamp self.new }
-        ensures at { self.new.at ≡ at }
-    {
-        self.seconds = seconds_text(at / 1000);
-        self.thousandths = thousandths_text(at % 1000);
-        self.second = at - at % 1000;
-        self.at = at;
-    }
-
-    /// Appends it and a space, where there is room.
-    #[inline(always)]
-    fn add_to(&self, text: &mut Vec<u8>)
-        requires is { IsStamp self.now }
-        requires room { vec_len text.old + 20 ≤ vec_capacity text.old }
-        ensures items { text.new.items ≡ text.old.items ++ (stamp self.now.at ++ codes " ") }
-        ensures len { vec_len text.new ≡ vec_len text.old + 20 }
-        ensures capacity { vec_capacity text.new ≡ vec_capacity text.old }
-    {
-        let (seconds, thousandths) = (self.seconds, self.thousandths);
-        add(text, &seconds);
-        add(text, &thousandths);
-    }
-}
-
 /// Writes the lines of the frames that a tester of this name was sent.
 #[derive(Drop)]
 pub struct LineWriter {
@@ -181,12 +93,12 @@ impl Model for LineWriter {
     ghost Value = { WriterView };
 
     ghost use Rattle.diag_can.specs.Reply.{AreFlags};
-    ghost use Rattle.diag_can.specs.Writer.{IsFront, IsStamp};
+    ghost use Rattle.diag_can.specs.Writer.{IsFront};
 
     ghost view = { λ w. record { name = w.name.items; flags = w.flags } };
 
     ghost invariant = { λ w.
-        IsFront w.front w.name.items w.flags w.id × IsStamp w.stamp × AreFlags w.flags };
+        IsFront w.front w.name.items w.flags w.id × AreFlags w.flags };
 }
 
 impl LineWriter {

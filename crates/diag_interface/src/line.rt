@@ -1,15 +1,14 @@
 //! A line of a recording, and whose interface it is.
 
 ghost use Rattle.std.specs.Prelude.{◌≡◌, ◌+◌, ◌≤◌, ◌++◌, ◌∷◌, ◌<◌, [], length, take};
-ghost use Rattle.std.specs.List.{after_first, before_first, prefix_len};
-ghost use Rattle.diag_can.specs.Stamp.{is_no_space, is_space};
+ghost use Rattle.std.specs.List.{after_first, before_first};
 ghost use Rattle.diag_interface.specs.Interface.{interface_of, is_close, is_other, is_stamped, only_line, time_alone};
 ghost use Rattle.diag_interface.specs.Only.{turned};
 ghost use Rattle.diag_interface.specs.Window.{items, room, size};
 ghost use Rattle.diag_can.specs.BusLine.{bus_line};
 
 use crate::window::Window;
-use diag_can::{BusLine, read_bus_line};
+use diag_can::{BusLine, read_bus_line, space_run, word_run};
 use memchr::memchr;
 
 /// What stands behind the first closing bracket, in place of what was there.
@@ -36,22 +35,6 @@ fn behind_close(line: &[u8]) -> &[u8]
         Some(end) => &line[end + 1..],
         None => &[],
     }
-}
-
-/// How many spaces stand at the front.
-fn space_run(text: &[u8]) -> usize
-    ensures count { result ≡ prefix_len is_space text.now }
-    ensures fits { result ≤ length text.now }
-{
-    text.iter().take_while(|c| **c == b' ').count()
-}
-
-/// How many bytes other than space stand at the front.
-fn word_run(text: &[u8]) -> usize
-    ensures count { result ≡ prefix_len is_no_space text.now }
-    ensures fits { result ≤ length text.now }
-{
-    text.iter().take_while(|c| **c != b' ').count()
 }
 
 /// The interface's name in a line.

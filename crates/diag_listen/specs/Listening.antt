@@ -1,5 +1,5 @@
 -- What the events of a unit's side are to its messages, and what is kept of them.
-use Rattle.std.specs.Prelude.{◌≡◌, ℕ, ◌&&◌, nat_lt, not, Bool, true, false, List, [], ◌∷◌, ◌++◌, length, slice_get, slice_index, Option, Some, None, is_some, option_and_then}
+use Rattle.std.specs.Prelude.{◌≡◌, ℕ, ◌&&◌, nat_lt, not, Bool, true, false, List, [], ◌∷◌, ◌++◌, length, slice_get, slice_index, Option, Some, None, IsSome, is_some, option_and_then}
 use Rattle.diag_can.specs.Event.{Event, Physical, Functional, Ticks}
 use Rattle.diag_pdu.specs.Cut.{consecutive_count}
 use Rattle.diag_pdu.specs.Kind.{kind, Kind, Single, First, Overflow, Consecutive, FlowControl, Ignored}
@@ -12,13 +12,14 @@ use Rattle.diag_tp.specs.Link.{unfinished}
 use Rattle.diag_tp.specs.Moments.{history, last_time}
 use Rattle.diag_tp.specs.Reception.{Reception, open_at}
 use Rattle.diag_exchange.specs.Exchanges.{over_after, over_with}
-use Rattle.diag_exchange.specs.Taking.{Stands}
+use Rattle.diag_exchange.specs.Taking.{IsUnchanged, Stands}
 use Rattle.diag_exchange.specs.declared.exchanges.Exchanges.{Exchanges}
 use Rattle.diag_exchange.specs.declared.happening.Happening.{Happening}
 use Rattle.diag_exchange.specs.declared.happening.Happening.TheVariants.{Asked, Began, Came, Lost}
 use Rattle.diag_exchange.specs.Over.{Over}
 use Rattle.diag_exchange.specs.declared.happening.CaptureLine.{CaptureLine}
 use Rattle.diag_exchange.specs.declared.happening.AskedRequest.{AskedRequest}
+use Rattle.diag_exchange.specs.declared.happening.Start.{Start}
 use Rattle.diag_listen.specs.declared.listener.Listener.{Listener}
 
 -- ---- messages of the unit
@@ -133,6 +134,22 @@ Hears old new out out' at es = (E : List Event) (hs : List Happening)
     → Listens old E hs
     → Listens new (E ++ es) (hs ++ all_happen old.setup at E es)
     × (out' ≡ out ++ over_after hs (all_happen old.setup at E es))
+
+-- memory was refused for what is over where the message that was coming in breaks off: its reception has ended, which isn't told
+pub record RefusedLost (old new : Listener) (out out' : List Over) : Type 0 where
+  pub coming : IsSome old.exchanges.coming
+  pub ended : new.receiver.partial ≡ None
+  pub exchanges : IsUnchanged old.exchanges new.exchanges
+  pub same : out' ≡ out
+
+-- hearing a frame of this kind may take memory, where this message is coming in
+abbrev pub may_refuse : Option Start → Kind → Bool
+may_refuse coming (Single payload) = true
+may_refuse coming (First len rx_dl head) = true
+may_refuse coming Overflow = is_some coming
+may_refuse coming (Consecutive sequence_number part) = is_some coming
+may_refuse coming (FlowControl flow_status block_size st_min) = false
+may_refuse coming Ignored = false
 
 -- a request was complete behind all that happened
 abbrev pub HearsRequest : Listener → Listener → List Over → List Over → AskedRequest → Type 0

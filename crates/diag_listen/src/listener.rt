@@ -1,6 +1,6 @@
 //! The unit's side to a tester, as it is heard.
 
-ghost use Rattle.std.specs.Prelude.{◌≡◌, ◌≤◌, ◌<◌, [], ◌∷◌, ◌++◌, length, is_some, None, Some, IsSome, OnOk};
+ghost use Rattle.std.specs.Prelude.{◌≡◌, ◌≤◌, ◌<◌, [], ◌∷◌, ◌++◌, length, take, is_some, None, Some, IsOk, IsSome, IsTrue, OnErr, OnOk};
 ghost use Rattle.diag_can.specs.Event.{Event as AnEvent};
 ghost use Rattle.diag_can.specs.Log.{waited};
 ghost use Rattle.diag_pdu.specs.Kind.{Consecutive, IsRead, Single, kind, says};
@@ -8,9 +8,9 @@ ghost use Rattle.diag_pdu.specs.Cut.{head_size};
 ghost use Rattle.diag_pdu.specs.Length.{single_most};
 ghost use Rattle.diag_sides.specs.Receiver.{begun_receiving, open_after};
 ghost use Rattle.diag_exchange.specs.Streaming.{opened};
-ghost use Rattle.diag_exchange.specs.Taking.{Ended};
+ghost use Rattle.diag_exchange.specs.Taking.{Ended, IsUnchanged};
 ghost use Rattle.diag_exchange.specs.declared.happening.Happening.TheVariants.{Began, Came};
-ghost use Rattle.diag_listen.specs.Listening.{Hears, HearsRequest, Listens, Moves, TookEach, after_ticks, began, kind_happens, lost_if, part_happens, ticks_happen};
+ghost use Rattle.diag_listen.specs.Listening.{Hears, HearsRequest, Listens, Moves, RefusedLost, TookEach, after_ticks, began, kind_happens, lost_if, may_refuse, part_happens, ticks_happen};
 
 use diag_can::{LentBytes, TickCount};
 use diag_exchange::{CaptureLine, Exchanges, OpenBox, Over, Start};
@@ -60,11 +60,13 @@ impl Listener {
     /// Hears so much time, in milliseconds; what is over with it is put behind `over`.
     ///
     /// # Errors
-    /// `AllocError` where memory is refused; of what was heard nothing is said then.
+    /// `AllocError` where memory is refused for what is over where the message that was coming in breaks off. Its reception has
+    /// ended then, but the exchanges and `over` are as they were.
     #[inline(always)]
     pub fn wait(&mut self, at: CaptureLine, ms: u64, over: &mut Vec<Over>) -> Result<(), AllocError>
         ensures heard { OnOk result
             (Hears self.old self.new over.old.items over.new.items at (waited ms)) }
+        ensures err { OnErr result (RefusedLost self.old self.new over.old.items over.new.items) }
         ensures setup { self.new.setup ≡ self.old.setup }
     {
         // (for its contract: the time is that of this line, and N_Cr is within the longest count)
@@ -85,6 +87,7 @@ impl Listener {
         ensures moves { OnOk result (Moves self.old self.new over.old.items over.new.items
             (ticks_happen self.old.setup count self.old.receiver.partial)
             (after_ticks self.old.setup count self.old.receiver.partial)) }
+        ensures err { OnErr result (RefusedLost self.old self.new over.old.items over.new.items) }
         ensures setup { self.new.setup ≡ self.old.setup }
     {
         self.receiver.pass(self.setup.n_cr.get(), count.get());
@@ -97,7 +100,8 @@ impl Listener {
     /// Hears a frame of the unit, of either kind.
     ///
     /// # Errors
-    /// As `wait`.
+    /// `AllocError` where memory is refused; of what was heard nothing is said then. Flow control, and a frame that is ignored,
+    /// need none; no more does what goes on with a message or breaks it off where none is coming in.
     #[inline(always)]
     pub fn take(
         &mut self,
@@ -107,6 +111,8 @@ impl Listener {
     ) -> Result<(), AllocError>
         ensures heard { OnOk result (Hears self.old self.new over.old.items over.new.items at
             (AnEvent.Physical frame.now ∷ [])) }
+        ensures err { OnErr result (IsTrue (may_refuse self.old.exchanges.coming
+            (kind frame.now self.old.setup.max_request))) }
         ensures setup { self.new.setup ≡ self.old.setup }
     {
         let pci = Pci::read(frame.as_slice(), self.setup.max_request);
@@ -116,12 +122,15 @@ impl Listener {
     /// Hears a request of the tester, complete, of which nothing was heard.
     ///
     /// # Errors
-    /// As `wait`.
+    /// `AllocError` where memory is refused, and then nothing has changed.
     #[inline(always)]
     pub fn ask(&mut self, asked: OpenBox, over: &mut Vec<Over>) -> Result<(), AllocError>
         requires { asked ≡ opened asked.request }
         ensures heard { OnOk result
             (HearsRequest self.old self.new over.old.items over.new.items asked.request) }
+        ensures err { OnErr result (IsUnchanged self.old.exchanges self.new.exchanges) }
+        ensures out { OnErr result (over.new.items ≡ over.old.items) }
+        ensures receiver { self.new.receiver ≡ self.old.receiver }
         ensures setup { self.new.setup ≡ self.old.setup }
     {
         self.exchanges.ask(asked, over)
@@ -130,9 +139,11 @@ impl Listener {
     /// Where all was heard, the exchanges that aren't over are put behind `over`, in memory of their own.
     ///
     /// # Errors
-    /// `AllocError` where memory is refused.
+    /// `AllocError` where memory is refused; then some of them may be there. Where all are over, none is asked for.
     pub fn left(&self, alloc: Global, over: &mut Vec<Over>) -> Result<(), AllocError>
-        ensures { OnOk result (Ended self.now.exchanges over.old.items over.new.items) }
+        ensures ok { OnOk result (Ended self.now.exchanges over.old.items over.new.items) }
+        ensures front { take (length over.old.items) over.new.items ≡ over.old.items }
+        ensures none { self.now.exchanges.live.items ≡ [] → IsOk result }
     {
         self.exchanges.left(alloc, over)
     }
@@ -151,6 +162,7 @@ impl Listener {
         ensures moves { OnOk result (Moves self.old self.new over.old.items over.new.items
             (kind_happens self.old.receiver.partial at (says pci.entry))
             (open_after self.old.receiver.partial (says pci.entry))) }
+        ensures err { OnErr result (IsTrue (may_refuse self.old.exchanges.coming (says pci.entry))) }
         ensures setup { self.new.setup ≡ self.old.setup }
     {
         match pci {
@@ -255,6 +267,7 @@ impl Listener {
         ensures moves { OnOk result (Moves self.old self.new over.old.items over.new.items
             (part_happens self.old.receiver.partial (Consecutive sequence_number part.now))
             (open_after self.old.receiver.partial (Consecutive sequence_number part.now))) }
+        ensures err { OnErr result (IsSome self.old.exchanges.coming) }
         ensures setup { self.new.setup ≡ self.old.setup }
     {
         let message = self.receiver.complete(pci);
@@ -273,6 +286,7 @@ impl Listener {
         ensures took { OnOk result (IsSome self.old.exchanges.coming → TookEach self.old.exchanges self.new.exchanges
             over.old.items over.new.items (Came message ∷ [])) }
         ensures coming { OnOk result (self.new.exchanges.coming ≡ None) }
+        ensures err { OnErr result (IsSome self.old.exchanges.coming) }
         ensures receiver { self.new.receiver ≡ self.old.receiver }
         ensures setup { self.new.setup ≡ self.old.setup }
     {
@@ -286,6 +300,7 @@ impl Listener {
     fn lose(&mut self, over: &mut Vec<Over>) -> Result<(), AllocError>
         ensures took { OnOk result (TookEach self.old.exchanges self.new.exchanges
             over.old.items over.new.items (lost_if (is_some self.old.exchanges.coming))) }
+        ensures err { OnErr result (RefusedLost self.old self.new over.old.items over.new.items) }
         ensures coming { OnOk result (self.new.exchanges.coming ≡ None) }
         ensures partial { self.new.receiver.partial ≡ None }
         ensures setup { self.new.setup ≡ self.old.setup }

@@ -8,7 +8,7 @@ use Rattle.diag_tp.specs.declared.sent.Sent.{Sent}
 use Rattle.diag_tp.specs.Moments.{last_time}
 use Rattle.diag_tp.specs.Wire.{Placed, wire}
 use Rattle.diag_tp.specs.State.{LinkState}
-use Rattle.diag_tp.specs.Link.{EachHistory, StandsFor, last_tick}
+use Rattle.diag_tp.specs.Link.{EachHistory, HandsOut, StandsFor, last_tick}
 use Rattle.diag_port.specs.Port.{AreWithin, Grew, SentDue}
 use Rattle.diag_port.proofs.Within.{within_none, within_append, within_one, within_wider}
 
@@ -18,10 +18,6 @@ Handed start link at more =
     AreWithin at at more
     × ((s : LinkSetup) (E : List Event) (A : List Placed) (Q : List Sent) → StandsFor s start E A Q → last_time E ≤ last_tick
     → StandsFor s link E A (Q ++ more) × (at ≡ last_time E))
-
--- the link stands for this frame more
-abbrev pub HandsOut : LinkState → LinkState → Frame → Type 0
-HandsOut link next frame = EachHistory link (λ s E A Q. StandsFor s next E A (Q ++ record { at = last_time E; frame = frame } ∷ []))
 
 pub handed_none : (link : LinkState) (at : ℕ) (out : List Sent) → EachHistory link (λ s E A Q. at ≡ min (last_time E) last_tick)
     → Grew out out (Handed link link at)

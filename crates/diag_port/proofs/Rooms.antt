@@ -1,6 +1,6 @@
 -- Room for frames, and how many frames a message has.
 use Rattle.std.proofs.Common.{◌≡◌, ◌≤◌, ◌<◌, ℕ, ◌+◌, ◌-◌, ◌*◌, ◌/◌, Bool, true, false, List, length, refl, subst, sym, arith}
-use Rattle.std.specs.Prelude.{nat_le, if◌then◌else◌}
+use Rattle.std.specs.Prelude.{IsTrue, nat_le, if◌then◌else◌}
 use Rattle.std.proofs.Math.Nat.{div-mul-le_self, mul-le-mul_left}
 use Rattle.std.proofs.lemmas.Nat.{le-div}
 use Rattle.std.proofs.lemmas.Bool.Decides.{nat_tests}
@@ -17,26 +17,15 @@ use Rattle.diag_port.specs.Port.{HasRoomFor}
 -- of a link with the same settings, room for fewer frames
 pub room_fewer : (old new : LinkState) (n m : ℕ) (out : SentList) → new.setup ≡ old.setup → m ≤ n → HasRoomFor old n out → HasRoomFor new m out
 room_fewer old new n m out same le room =
-    subst (λ s. HasRoom s.framing.tx_dl m out) (sym same) (omega (arith, room.0, le), λ long. omega (arith, room.1 long, le))
+    subst (λ s. HasRoom s.framing.tx_dl m out) (sym same) (omega (arith, room.0, le), room.1)
 
 -- one frame took its room
 pub room_taken : (old new : LinkState) (n m : ℕ) (out out' : SentList) → new.setup ≡ old.setup → n ≡ m + 1 → out.room ≡ out'.room + 1
-    → out.long_room ≤ out'.long_room + 1 → HasRoomFor old n out → HasRoomFor new m out'
-room_taken old new n m out out' same one short long room =
-    subst (λ s. HasRoom s.framing.tx_dl m out') (sym same) (omega (arith, room.0, one, short), λ is. omega (arith, room.1 is, one, long))
+    → out'.is_long ≡ out.is_long → HasRoomFor old n out → HasRoomFor new m out'
+room_taken old new n m out out' same one less long room =
+    subst (λ s. HasRoom s.framing.tx_dl m out') (sym same) (omega (arith, room.0, one, less), λ is. subst (λ b. IsTrue b) (sym long) (room.1 is))
 
 -- ---- frames
-
--- a length that isn't 8 is more
-pub above_8 : (d : DataLength) → (d ≡ Dl8 → ⊥) → 8 < in_bytes d
-above_8 Dl8 other = absurd (other refl)
-above_8 Dl12 other = omega arith
-above_8 Dl16 other = omega arith
-above_8 Dl20 other = omega arith
-above_8 Dl24 other = omega arith
-above_8 Dl32 other = omega arith
-above_8 Dl48 other = omega arith
-above_8 Dl64 other = omega arith
 
 -- a First and its Consecutives of b bytes are no more than those of 8
 fewer : (b n : ℕ) → 8 ≤ b → b ≤ 64 → b - 2 < n → (n - (if nat_le n 4095 then b - 2 else b - 6) + (b - 2)) / (b - 1) ≤ (n - (if nat_le n 4095 then 6 else 2) + 6) / 7

@@ -18,7 +18,6 @@ ghost use Rattle.std.specs.Prelude.{
 };
 ghost use Rattle.diag_can.specs.Event.{Event as AnEvent};
 ghost use Rattle.diag_pdu.specs.declared.setup.LinkSetup.{LinkSetup as ALinkSetup};
-ghost use Rattle.diag_pdu.specs.Length.{in_bytes};
 ghost use Rattle.diag_tp.specs.declared.sent.Sent.{Sent as ASent};
 ghost use Rattle.diag_tp.specs.Moments.{last_moment, last_time};
 ghost use Rattle.diag_tp.specs.Wire.{Placed};
@@ -31,7 +30,7 @@ ghost use Rattle.diag_port.specs.Held.{until_due};
 
 use crate::port::Port;
 use diag_can::{LentEvent, TickCount};
-use diag_pdu::{DataLength, Message};
+use diag_pdu::Message;
 use diag_tp::{Link, SentFrames, Taken, moments_law, time_law};
 
 /// Gives the link each message that is due.
@@ -82,30 +81,8 @@ fn send_frames(link: &mut Link, out: &mut SentFrames)
     ensures room { KeepsFrameRoom link.old.state link.new.state out.old out.new }
     ensures reply_rooms { link.old.reply_room ≤ link.new.reply_room }
 {
-    let DataLength::Dl8 = link.tx_dl() else {
-        return send_long_frames(link, out);
-    };
     let at = link.now();
-    while let Some(frame) = link.next_frame() {
-        out.push(at, frame);
-    }
-}
-
-/// The same of a link that sends frames of more than 8 bytes.
-#[inline(never)]
-fn send_long_frames(link: &mut Link, out: &mut SentFrames)
-    requires long { 8 < in_bytes link.old.state.setup.framing.tx_dl }
-    requires room { HasRoomFor link.old.state (pending link.old.state) out.old }
-    ensures stands { Grew out.old.items out.new.items (SentDue link.old.state link.new.state) }
-    ensures time { link.new.state.now ≡ link.old.state.now }
-    ensures drained { pending link.new.state ≡ 0 }
-    ensures room { KeepsFrameRoom link.old.state link.new.state out.old out.new }
-    ensures reply_rooms { link.old.reply_room ≤ link.new.reply_room }
-{
-    let at = link.now();
-    while !link.is_drained() {
-        out.take_next(at, link);
-    }
+    while out.take_next(at, link) {}
 }
 
 /// Takes a frame that was read, places the reply to the request that it completes, and hands out what is due. A reply that
@@ -237,7 +214,7 @@ fn pass_quiet(port: &mut Port, count: TickCount)
     ensures pace { port.new.pace ≡ port.old.pace }
     ensures time { port.new.link.state.now ≡ min (port.old.link.state.now + count) last_tick }
 {
-    port.link.advance(count);
+    port.advance_quietly(u64::from(count.get()));
 }
 
 /// Takes a frame that was read where nothing is held, and gives the link the reply to the request that it completes, which

@@ -3,7 +3,7 @@
 ghost use Rattle.std.specs.Prelude.{◌≡◌, ◌≤◌, ◌<◌, ◌↔◌, [], IsTrue, IsSome};
 ghost use Rattle.diag_tp.specs.Gives.{gives};
 ghost use Rattle.diag_tp.specs.Link.{EachHistory};
-ghost use Rattle.diag_port.specs.Port.{IsAtRest, port_of, port_later, port_quiet, whole_later};
+ghost use Rattle.diag_port.specs.Port.{IsAtRest, Passed, port_of, port_later, port_quiet, whole_later};
 ghost use Rattle.diag_port.specs.Block.{port_in_block};
 ghost use Rattle.diag_port.specs.Standing.{PortStands};
 
@@ -100,6 +100,8 @@ impl Port {
         requires rest { IsAtRest self.old }
         requires quiet { count < port_quiet (port_of self.old) }
         ensures later { self.new ≡ whole_later count self.old }
+        ensures rest { IsAtRest self.new }
+        ensures passed { Passed (port_of self.old) (port_of self.new) count [] }
     {
         self.link.advance_quietly(count);
     }

@@ -1,5 +1,5 @@
 -- What a receiver keeps of the events: of an open reception no more than the next frames need.
-use Rattle.std.specs.Prelude.{ℕ, ◌+◌, ◌-◌, ◌%◌, ◌==◌, nat_le, nat_lt, min, Bool, ◌&&◌, if◌then◌else◌, List, ◌++◌, length, take, Option, Some, None, option_and_then}
+use Rattle.std.specs.Prelude.{ℕ, ◌+◌, ◌-◌, ◌%◌, ◌==◌, nat_le, nat_lt, min, Bool, false, ◌&&◌, if◌then◌else◌, List, ◌++◌, length, take, Option, Some, None, is_some, option_and_then}
 use Rattle.diag_pdu.specs.Kind.{Kind, Single, First, Overflow, Consecutive, FlowControl, Ignored}
 use Rattle.diag_pdu.specs.declared.setup.LinkSetup.{LinkSetup}
 use Rattle.diag_pdu.specs.declared.step.Request.{Request}
@@ -87,6 +87,15 @@ completed_by o (Consecutive sequence_number part) =
     if_complete (option_and_then (with_consecutive sequence_number part) o)
 completed_by o (FlowControl flow_status block_size st_min) = None
 completed_by o Ignored = None
+
+-- the message that a frame completes takes memory where it is copied: all but that of a SingleFrame of up to 8 bytes
+abbrev pub needs_copy : Option Receiving → Kind → Bool
+needs_copy o (Single payload) = nat_lt 8 (length payload)
+needs_copy o (First len rx_dl head) = false
+needs_copy o Overflow = false
+needs_copy o (Consecutive sequence_number part) = is_some (completed_by o (Consecutive sequence_number part))
+needs_copy o (FlowControl flow_status block_size st_min) = false
+needs_copy o Ignored = false
 
 -- a block of the reception is whole, and more is to come
 abbrev pub ends_block : LinkSetup → Receiving → Bool

@@ -1,13 +1,13 @@
 //! The receiving side of a link: messages of one frame and of several (ISO 15765-2:2016, 9.2, 9.3, 9.6.4 and 9.8.3).
 
-ghost use Rattle.std.specs.Prelude.{◌≡◌, ◌≤◌, ◌<◌, ◌+◌, ◌-◌, ◌%◌, ◌++◌, [], false, length, min, Some, None, take, vec_capacity, OnOk, IfOk, IfSome, IfNone, IsSome, option_and_then, option_copied, is_some, if◌then◌else◌, ◌&&◌, ◌==◌, nat_lt, IsTrue, IsFalse};
+ghost use Rattle.std.specs.Prelude.{◌≡◌, ◌≤◌, ◌<◌, ◌+◌, ◌-◌, ◌%◌, ◌++◌, [], false, length, min, Some, None, take, vec_capacity, OnErr, OnOk, IfOk, IfSome, IfNone, IsSome, option_and_then, option_copied, is_some, if◌then◌else◌, ◌&&◌, ◌==◌, nat_lt, IsTrue, IsFalse};
 ghost use Rattle.diag_pdu.specs.declared.setup.LinkSetup.{LinkSetup as ALinkSetup};
 ghost use Rattle.diag_sides.specs.Quiet.{reception_quiet, reception_later};
 ghost use Rattle.diag_pdu.specs.Cut.{head_size, consecutive_count};
 ghost use Rattle.diag_pdu.specs.Length.{in_bytes, single_most};
 ghost use Rattle.diag_sides.specs.PartialBytes.{IsHeld};
 ghost use Rattle.diag_sides.specs.declared.receiver.PartialBytes.{PartialBytes};
-ghost use Rattle.diag_sides.specs.Receiver.{ask_of, kept_bytes, begun_receiving, expects, with_bytes, ends_block, ticks_later, open_after, completed_by, granted_by, go_on};
+ghost use Rattle.diag_sides.specs.Receiver.{ask_of, kept_bytes, begun_receiving, expects, with_bytes, ends_block, ticks_later, open_after, completed_by, needs_copy, granted_by, go_on};
 ghost use Rattle.diag_pdu.specs.Request.{request_of};
 ghost use Rattle.diag_pdu.specs.Kind.{Single, Consecutive, IsRead, says, single_only, room_to_begin, needed_for};
 
@@ -234,9 +234,11 @@ impl Model for Receiver {
 }
 
 impl Receiver {
-    /// A receiver without a reception.
+    /// A receiver without a reception, and without room.
     pub fn new(alloc: Global) -> Receiver
-        ensures { result.partial ≡ None }
+        ensures partial { result.partial ≡ None }
+        ensures room { result.room ≡ 0 }
+        ensures staged { result.staged ≡ None }
     {
         Receiver {
             alloc,
@@ -246,9 +248,14 @@ impl Receiver {
     }
 
     /// Makes room for a message of this length.
+    ///
+    /// # Errors
+    /// `AllocError` where memory is refused: there wasn't so much room then, and all is as it was.
     #[inline(always)]
     pub fn reserve(&mut self, len: u16) -> Result<(), AllocError>
         ensures ok { OnOk result (len ≤ self.new.room) }
+        ensures err { OnErr result (self.old.room < len) }
+        ensures left { OnErr result (self.new ≡ self.old) }
         ensures kept { self.old.room ≤ self.new.room }
         ensures same { self.new.partial ≡ self.old.partial }
         ensures staged { self.new.staged ≡ self.old.staged }
@@ -314,13 +321,15 @@ impl Receiver {
         }
     }
 
-    /// The message of a SingleFrame, which takes the room that was made for it where it is longer than 8 bytes.
+    /// The message of a SingleFrame, which takes all the room that was made where it is longer than 8 bytes.
     pub fn single(&mut self, payload: &[u8]) -> Message
         requires read { (1 ≤ length payload.now) × (length payload.now ≤ 62) }
         requires room { needed_for (Single payload.now) ≤ self.old.room }
         ensures message { result ≡ payload.now }
         ensures partial { self.new.partial ≡ self.old.partial }
+        ensures staged { self.new.staged ≡ self.old.staged }
         ensures room { needed_for (Single payload.now) ≡ 0 → self.new.room ≡ self.old.room }
+        ensures taken { 8 < length payload.now → self.new.room ≡ 0 }
     {
         if payload.len() <= 8 {
             return Message::in_place(FrameBytes::from_slice(payload));
@@ -344,9 +353,13 @@ impl Receiver {
     }
 
     /// The message that this frame would complete.
+    ///
+    /// # Errors
+    /// `AllocError` where memory is refused, which a message needs that isn't a SingleFrame's of up to 8 bytes.
     pub fn peek(&self, pci: Pci<'_>) -> Result<Option<Message>, AllocError>
         requires read { IsRead 65535 (says pci) }
-        ensures { IfOk result (λ message. message ≡ completed_by self.now.partial (says pci.entry)) }
+        ensures ok { IfOk result (λ message. message ≡ completed_by self.now.partial (says pci.entry)) }
+        ensures err { OnErr result (IsTrue (needs_copy self.now.partial (says pci.entry))) }
     {
         match pci {
             Pci::Single(payload) => Ok(Some(Message::of(self.alloc, payload)?)),

@@ -13,6 +13,7 @@ ghost use Rattle.std.specs.Prelude.{
   sum_by,
   Some,
   None,
+  OnErr,
   OnOk,
   IfSome,
   IfNone,
@@ -72,10 +73,14 @@ impl Sender {
         }
     }
 
-    /// Makes room for one more reply. Refused where memory is, and where the queue is full.
+    /// Makes room for one more reply.
+    ///
+    /// # Errors
+    /// `AllocError` where there is none, and memory is refused or the queue is full; the replies stay.
     #[inline(always)]
     pub fn make_room(&mut self) -> Result<(), AllocError>
         ensures ok { OnOk result (0 < self.new.room) }
+        ensures err { OnErr result (self.old.room ≡ 0) }
         ensures kept { self.old.room ≤ self.new.room }
         ensures current { self.new.current ≡ self.old.current }
         ensures waiting { self.new.waiting ≡ self.old.waiting }
@@ -84,9 +89,13 @@ impl Sender {
         self.waiting.make_room()
     }
 
-    /// Makes room for so many more replies. Refused where memory is, and where so many more can't wait.
+    /// Makes room for so many more replies.
+    ///
+    /// # Errors
+    /// `AllocError` where there is less, and memory is refused or so many more can't wait; the replies stay.
     pub fn make_rooms(&mut self, count: usize) -> Result<(), AllocError>
         ensures ok { OnOk result (count ≤ self.new.room) }
+        ensures err { OnErr result (self.old.room < count) }
         ensures kept { self.old.room ≤ self.new.room }
         ensures current { self.new.current ≡ self.old.current }
         ensures waiting { self.new.waiting ≡ self.old.waiting }

@@ -1,2 +1,1 @@
-pub mod Second
 pub mod Told

@@ -1,8 +1,8 @@
 -- How an exchange is told.
-use Rattle.std.specs.Prelude.{ℕ, ◌/◌, ◌%◌, ◌==◌, codes, Bool, if◌then◌else◌, List, [], ◌∷◌, ◌++◌, Option, Some, None}
+use Rattle.std.specs.Prelude.{ℕ, ◌==◌, codes, Bool, if◌then◌else◌, List, [], ◌∷◌, ◌++◌, Option, Some, None}
 use Rattle.std.specs.Fmt.{decimal}
 use Rattle.hex.specs.Hex.{encode_upper}
-use Rattle.diag_can.specs.Reply.{zero_filled}
+use Rattle.diag_can.specs.Reply.{stamp_digits}
 use Rattle.diag_exchange.specs.Agreeing.{marks, waited}
 use Rattle.diag_exchange.specs.Over.{Over, Exchange, Unasked}
 use Rattle.diag_exchange.specs.declared.happening.CaptureLine.{CaptureLine}
@@ -14,10 +14,6 @@ dash = codes "-"
 abbrev pub capture_line_told : Over → CaptureLine
 capture_line_told (Exchange request pendings answer) = request.at
 capture_line_told (Unasked heard) = heard.start.at
-
--- seconds with ten digits and microseconds with six, of a moment in milliseconds
-abbrev pub stamp_text : ℕ → List ℕ
-stamp_text at = zero_filled 10 (decimal (at / 1000)) ++ codes "." ++ zero_filled 3 (decimal (at % 1000)) ++ codes "000"
 
 -- the bytes of a message, where there is one
 abbrev pub message_text : Option (List ℕ) → List ℕ
@@ -76,7 +72,7 @@ parted (word ∷ next ∷ words) = word ++ codes " " ++ parted (next ∷ words)
 abbrev pub told_text : List ℕ → ℕ → Bool → Over → List ℕ
 told_text name moment same o = parted (
     decimal (capture_line_told o).number
-    ∷ stamp_text moment
+    ∷ stamp_digits moment
     ∷ name
     ∷ kind_text o
     ∷ request_text o

@@ -2,12 +2,11 @@
 
 ghost use Rattle.std.specs.Prelude.{◌≡◌, ◌<◌, ◌≤◌, ◌+◌, ◌*◌, ◌/◌, ◌%◌, ◌^◌, ◌∷◌, [], ◌++◌, codes, decimal, length, drop, option_copied, vec_len, vec_capacity, IfSome, OnOk, OnErr};
 ghost use Rattle.hex.specs.Hex.{encode_upper};
-ghost use Rattle.diag_can.specs.Reply.{zero_filled};
+ghost use Rattle.diag_can.specs.Reply.{stamp_digits};
 ghost use Rattle.diag_exchange.specs.Agreeing.{marks, waited};
-ghost use Rattle.diag_told.specs.Told.{byte_text, bytes_text, capture_line_told, expected_text, kind_text, message_text, pendings_told, reply_text, request_text, sent_text, stamp_text, time_text, told_text};
+ghost use Rattle.diag_told.specs.Told.{byte_text, bytes_text, capture_line_told, expected_text, kind_text, message_text, pendings_told, reply_text, request_text, sent_text, time_text, told_text};
 
-use crate::second::Second;
-use diag_can::{add_bytes, add_decimal, add_hex, decimal_pair, hex_digits};
+use diag_can::{KeptStamp, add_bytes, add_decimal, add_hex, add_late_digits, hex_digits};
 use diag_exchange::{CaptureLine, Expected, Over, OverKind};
 use diag_pdu::Message;
 use std::alloc::AllocError;
@@ -16,17 +15,14 @@ use std::mem;
 /// More bytes than a line has beside its tester's name and its messages.
 const LINE_ROOM: usize = 128;
 
-/// The first time, in milliseconds, whose seconds have more than ten digits.
-const LATE: u64 = 10_000_000_000_000;
-
 /// Adds the line of an exchange of a tester of this name, by the bus's time of its line, in milliseconds; `same` says whether
-/// it agrees. The second of its stamp is kept for the next.
+/// it agrees. Its stamp is kept for the next.
 ///
 /// # Errors
 /// `AllocError` where memory is refused; the text stays as it was.
 pub fn tell(
     text: &mut Vec<u8>,
-    second: &mut Second,
+    last: &mut KeptStamp,
     name: &[u8],
     moment: u64,
     over: &Over,
@@ -40,7 +36,7 @@ pub fn tell(
     let alloc = *text.allocator();
     // (in a variable of its own, so that the text's place and length stay in registers)
     let mut line = mem::replace(text, Vec::new(alloc));
-    add_front(&mut line, second, name, moment, over);
+    add_front(&mut line, last, name, moment, over);
     add_expected(&mut line, over, same);
     add_numbers(&mut line, over);
     *text = line;
@@ -59,11 +55,11 @@ fn line_room(name: &[u8], over: &Over, same: bool) -> Option<usize>
 
 /// Adds line, stamp, tester, kind, request and what the unit sent, each before a space, where there is room.
 #[inline(always)]
-fn add_front(text: &mut Vec<u8>, second: &mut Second, name: &[u8], moment: u64, over: &Over)
+fn add_front(text: &mut Vec<u8>, last: &mut KeptStamp, name: &[u8], moment: u64, over: &Over)
     requires { vec_len text.old + (length name.now + length (request_text over.now) + length (sent_text over.now) + 80)
         ≤ vec_capacity text.old }
     ensures items { text.new.items ≡ text.old.items ++ (decimal (capture_line_told over.now).number ++ codes " "
-        ++ stamp_text moment ++ codes " " ++ name.now ++ codes " " ++ kind_text over.now ++ codes " "
+        ++ stamp_digits moment ++ codes " " ++ name.now ++ codes " " ++ kind_text over.now ++ codes " "
         ++ request_text over.now ++ codes " " ++ sent_text over.now ++ codes " ") }
     ensures len { vec_len text.new ≤ vec_len text.old
         + (length name.now + length (request_text over.now) + length (sent_text over.now) + 80) }
@@ -71,7 +67,7 @@ fn add_front(text: &mut Vec<u8>, second: &mut Second, name: &[u8], moment: u64, 
 {
     add_head(
         text,
-        second,
+        last,
         name,
         moment,
         capture_line(over).number,
@@ -85,16 +81,16 @@ fn add_front(text: &mut Vec<u8>, second: &mut Second, name: &[u8], moment: u64, 
 
 /// Adds line, stamp, tester and kind, each before a space, where there is room.
 #[inline(always)]
-fn add_head(text: &mut Vec<u8>, second: &mut Second, name: &[u8], moment: u64, line: u64, kind: u8)
+fn add_head(text: &mut Vec<u8>, last: &mut KeptStamp, name: &[u8], moment: u64, line: u64, kind: u8)
     requires { vec_len text.old + (length name.now + 78) ≤ vec_capacity text.old }
-    ensures items { text.new.items ≡ text.old.items ++ (decimal line ++ codes " " ++ stamp_text moment ++ codes " "
+    ensures items { text.new.items ≡ text.old.items ++ (decimal line ++ codes " " ++ stamp_digits moment ++ codes " "
         ++ name.now ++ codes " " ++ kind ∷ codes " ") }
     ensures len { vec_len text.new ≤ vec_len text.old + (length name.now + 78) }
     ensures capacity { vec_capacity text.new ≡ vec_capacity text.old }
 {
     add_decimal(text, line);
     text.push_reserved(b' ');
-    add_stamp(text, second, moment);
+    add_stamp(text, last, moment);
     text.push_reserved(b' ');
     add_bytes(text, name);
     add_bytes(text, &[b' ', kind, b' ']);
@@ -297,32 +293,15 @@ fn add_byte(text: &mut Vec<u8>, mark: u8, byte: u8)
 
 /// Adds a moment, where there is room: seconds with ten digits, and microseconds with six.
 #[inline(always)]
-fn add_stamp(text: &mut Vec<u8>, second: &mut Second, at: u64)
+fn add_stamp(text: &mut Vec<u8>, last: &mut KeptStamp, at: u64)
     requires { vec_len text.old + 44 ≤ vec_capacity text.old }
-    ensures items { text.new.items ≡ text.old.items ++ stamp_text at }
+    ensures items { text.new.items ≡ text.old.items ++ stamp_digits at }
     ensures len { vec_len text.new ≤ vec_len text.old + 44 }
     ensures capacity { vec_capacity text.new ≡ vec_capacity text.old }
 {
-    if at < LATE {
-        second.go_to(at);
-        second.add_to(text);
+    if last.set(at) {
+        last.add_digits(text);
     } else {
-        add_decimal(text, at / 1000);
-        text.push_reserved(b'.');
+        add_late_digits(text, at);
     }
-    add_three(text, at % 1000);
-    add_bytes(text, b"000");
-}
-
-/// Adds the three digits of a number, where there is room.
-#[inline(always)]
-fn add_three(text: &mut Vec<u8>, number: u64)
-    requires few { number < 1000 }
-    requires room { vec_len text.old + 3 ≤ vec_capacity text.old }
-    ensures items { text.new.items ≡ text.old.items ++ zero_filled 3 (decimal number) }
-    ensures len { vec_len text.new ≡ vec_len text.old + 3 }
-    ensures capacity { vec_capacity text.new ≡ vec_capacity text.old }
-{
-    text.push_reserved(b'0' + (number / 100) as u8);
-    add_bytes(text, &decimal_pair(number % 100));
 }

@@ -1,14 +1,14 @@
 -- Ticks before which nothing falls due and nothing ends.
-use Rattle.std.proofs.Common.{◌≡◌, ℕ, zero, suc, ◌+◌, ◌<◌, ◌≤◌, List, [], ◌∷◌, ◌++◌, length, drop, refl, sym, ◌∙◌, ap, arith, min}
+use Rattle.std.proofs.Common.{◌≡◌, ℕ, zero, suc, ◌+◌, ◌<◌, ◌≤◌, List, [], ◌∷◌, ◌++◌, length, drop, map, refl, sym, subst, ◌∙◌, ap, arith, min}
 use Rattle.std.specs.Prelude.{Option, Some, None, max, option_and_then, option_to_list}
 use Rattle.std.proofs.lemmas.Bool.Decides.{nat_tests}
-use Rattle.std.proofs.lemmas.List.{nil_from_length}
+use Rattle.std.proofs.lemmas.List.{append-nil, nil_from_length}
 use Rattle.diag_can.specs.Event.{Event, Ticks}
 use Rattle.diag_pdu.specs.declared.setup.LinkSetup.{LinkSetup}
 use Rattle.diag_tp.specs.declared.sent.Sent.{Sent}
 use Rattle.diag_sides.specs.declared.sending.Phase.{Phase}
-use Rattle.diag_tp.specs.Moments.{moments}
-use Rattle.diag_tp.specs.Wire.{Placed}
+use Rattle.diag_tp.specs.Moments.{moments, last_time}
+use Rattle.diag_tp.specs.Wire.{Placed, stamped, wire}
 use Rattle.diag_sides.specs.Receiver.{Receiving, one_tick_later, ticks_later}
 use Rattle.diag_sides.specs.declared.sending.Sending.{Sending as Current}
 use Rattle.diag_sides.specs.Sender.{SenderState, kept_as, in_phase, once_gone, one_on, started, settled_in, tick_fields, ticked_fields}
@@ -17,7 +17,8 @@ use Rattle.diag_pdu.specs.Cut.{cut}
 use Rattle.diag_tp.specs.State.{LinkState, due}
 use Rattle.diag_sides.specs.Quiet.{always, reception_quiet, phase_quiet, sender_quiet, reception_later, phase_later, current_later}
 use Rattle.diag_tp.specs.Link.{StandsFor, last_tick, pending, quiet, quiet_later}
-use Rattle.diag_tp.proofs.Moments.{moments-sum}
+use Rattle.diag_tp.specs.Laws.{QuietLaw}
+use Rattle.diag_tp.proofs.Moments.{moments-append, moments-sum}
 use Rattle.diag_tp.proofs.History.{drained_parts, stands_more, stands_moments}
 
 -- ticks before the end of a reception, and one tick more
@@ -149,3 +150,50 @@ quiet_left n link none =
           let c : m < sender_quiet (current_later n link.sender.current) = omega (arith, after, few, some) in
           omega (arith, before, a.1 m least r, b.1 m least c),
     )
+
+-- ---- a quiet time as a whole
+
+-- nothing is due then
+pub still_drained : (n : ℕ) (link : LinkState) → pending link ≡ 0 → pending (quiet_later n link) ≡ 0
+unfolding pending
+still_drained n link none = ap length (due_later n link) ∙ none
+
+-- no ticks change nothing
+later_none : (link : LinkState) → link.now ≤ last_tick → quiet_later 0 link ≡ link
+unfolding quiet_later
+later_none link known =
+    same_link _ link refl (omega (arith, known)) (reception_none link.partial) refl (ap (λ o. kept_as o link.sender.waiting) (current_none link.sender.current))
+
+moments_none : (E : List Event) → moments (E ++ Ticks 0 ∷ []) ≡ moments E
+moments_none E = moments-append E (Ticks 0 ∷ []) ∙ append-nil (moments E)
+
+-- the link stands for these ticks more
+pub stands_later : (s : LinkSetup) (link : LinkState) (E : List Event) (A : List Placed) (Q : List Sent) (n : ℕ) → pending link ≡ 0 → n < quiet link
+    → StandsFor s link E A Q → StandsFor s (quiet_later n link) (E ++ Ticks n ∷ []) A Q
+unfolding quiet_later
+stands_later s link E A Q zero none few h =
+    subst (λ l. StandsFor s l (E ++ Ticks 0 ∷ []) A Q) (sym (later_none link (omega (arith, h.now))))
+    (stands_moments s link E (E ++ Ticks 0 ∷ []) A Q (sym (moments_none E)) h)
+stands_later s link E A Q (suc n) none few h =
+    let q = quiet_drained link none in
+    stands_ticks s link (quiet_later (suc n) link) E A Q (suc n) (omega arith) (omega arith) none refl
+    (ap (λ o. kept_as o link.sender.waiting) (sym (current_still link.setup (suc n) link.sender.current (omega arith)).0))
+    (sym (reception_still link.setup.n_cr (suc n) link.partial (omega arith))) refl refl h
+
+-- all frames are out where nothing is due
+all_sent : (s : LinkSetup) (link : LinkState) (E : List Event) (A : List Placed) (Q : List Sent) → pending link ≡ 0 → StandsFor s link E A Q → Q ≡ wire s E A
+unfolding pending
+all_sent s link E A Q none h =
+    sym (append-nil Q) ∙ (ap (λ d. Q ++ map (stamped s (last_time E)) d) (sym (nil_from_length (due link) none)) ∙ h.out)
+
+pub quiet_law : (s : LinkSetup) (link : LinkState) (E : List Event) (A : List Placed) (Q : List Sent) (n : ℕ) → pending link ≡ 0 → n < quiet link
+    → StandsFor s link E A Q → QuietLaw s link E A Q n
+quiet_law s link E A Q n none few h =
+    let after = stands_later s link E A Q n none few h in
+    let drained = still_drained n link none in
+    record {
+      stands = after;
+      drained = drained;
+      wire = sym (all_sent s (quiet_later n link) (E ++ Ticks n ∷ []) A Q drained after) ∙ all_sent s link E A Q none h;
+      rest = (quiet_left n link none).0;
+    }

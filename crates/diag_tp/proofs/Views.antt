@@ -1,6 +1,6 @@
 -- What the words of a link's contract say of its fields.
-use Rattle.std.proofs.Common.{◌≡◌, ℕ, ◌+◌, ◌<◌, ◌≤◌, Bool, List, ◌∷◌, length, ap, ap₂, ◌∙◌, arith, length-append}
-use Rattle.std.specs.Prelude.{◌↔◌, Option, IfSome, IsTrue, option_to_list}
+use Rattle.std.proofs.Common.{◌≡◌, ℕ, ◌+◌, ◌<◌, ◌≤◌, Bool, List, ◌∷◌, length, inl, inr, ap, ap₂, ◌∙◌, arith, length-append}
+use Rattle.std.specs.Prelude.{◌↔◌, ◌⊎◌, Option, IfSome, IsFalse, IsTrue, option_to_list}
 use Rattle.std.proofs.lemmas.List.{nil_from_length}
 use Rattle.std.proofs.lemmas.Bool.Decides.{nat_tests}
 use Rattle.diag_can.specs.Event.{Event}
@@ -12,6 +12,7 @@ use Rattle.diag_sides.specs.Sender.{SenderState, settled, settled_in, replied, I
 use Rattle.diag_sides.specs.declared.sending.Sending.{Sending}
 use Rattle.diag_tp.specs.Kept.{sender_event, sender_ticks}
 use Rattle.diag_tp.specs.Link.{pending, unsent, waiting_count, has_room, has_reply_room, KeepsRoom, KeepsReplyRoom, needed}
+use Rattle.diag_tp.specs.Taken.{LacksMemory, LacksToBegin}
 use Rattle.diag_tp.proofs.Numbers.{left, IsWithin, settled-counts, event_within, sender_ticks_within, replied-frames, replied-numbers}
 use Rattle.diag_sides.proofs.Settled.{none-due, IsDrained, drained_fields, fields_drained}
 use Rattle.diag_tp.proofs.History.{drained_parts}
@@ -31,6 +32,19 @@ reply_room v h = grind (arith, nat_tests)
 pub reply_room_made : (v : LinkView) → 0 < v.reply_room → IsTrue (has_reply_room v)
 unfolding has_reply_room
 reply_room_made v h = grind (arith, nat_tests)
+
+-- less room is too little
+pub room_lacks : (v : LinkView) (x : Event) → v.room < needed v.state.setup x → IsFalse (has_room v x)
+unfolding has_room
+room_lacks v x h = grind (arith, nat_tests)
+
+pub reply_room_lacks : (v : LinkView) → v.reply_room ≡ 0 → IsFalse (has_reply_room v)
+unfolding has_reply_room
+reply_room_lacks v h = grind (arith, nat_tests)
+
+pub begin_lacks : (v : LinkView) (x : Event) → LacksMemory v x ⊎ (v.reply_room ≡ 0) → LacksToBegin v x
+begin_lacks v x (inl h) = inl h
+begin_lacks v x (inr h) = inr (reply_room_lacks v h)
 
 -- at the same settings no room is lost where it doesn't get less
 pub keeps_room : (old new : LinkView) → new.state.setup ≡ old.state.setup → old.room ≤ new.room → KeepsRoom old new

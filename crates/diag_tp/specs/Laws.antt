@@ -1,5 +1,5 @@
 -- Small laws over the definitions, for who goes on from a link's history.
-use Rattle.std.specs.Prelude.{◌≡◌, ◌<◌, ℕ, suc, ◌+◌, ◌-◌, List, [], ◌∷◌, ◌++◌, length, map, Some, None, IsSome, IsTrue, false}
+use Rattle.std.specs.Prelude.{◌≡◌, ◌<◌, ◌≤◌, ℕ, suc, ◌+◌, ◌-◌, List, [], ◌∷◌, ◌++◌, length, map, Some, None, IsSome, IsTrue, false}
 use Rattle.diag_can.specs.Event.{Event, Physical, Ticks}
 use Rattle.diag_pdu.specs.declared.setup.LinkSetup.{LinkSetup}
 use Rattle.diag_pdu.specs.declared.step.Step.TheVariants as step
@@ -8,7 +8,10 @@ use Rattle.diag_pdu.specs.declared.framing.Framing.{Framing}
 use Rattle.diag_pdu.specs.Cut.{cut}
 use Rattle.diag_tp.specs.Moments.{moments, last_time}
 use Rattle.diag_tp.specs.Gives.{gives, gives_at, is_request}
-use Rattle.diag_tp.specs.Link.{is_frame}
+use Rattle.diag_tp.specs.declared.sent.Sent.{Sent}
+use Rattle.diag_tp.specs.State.{LinkState}
+use Rattle.diag_tp.specs.Wire.{Placed, wire}
+use Rattle.diag_tp.specs.Link.{StandsFor, is_frame, pending, quiet, quiet_later}
 
 pub record TimeLaw : Type 0 where
   -- the moments of events and further events
@@ -38,3 +41,11 @@ pub record CutLaw (s : LinkSetup) (P : List ℕ) (f : Framing) : Type 0 where
       → gives_at s (map (λ bytes. Physical bytes) (cut f P)) e ≡ None
   pub last : gives_at s (map (λ bytes. Physical bytes) (cut f P)) (length (cut f P) - 1)
       ≡ Some (step.Request (request_of false P))
+
+-- So many ticks pass before anything falls due or ends, on a link of which nothing is due: it stands for them, and still hands
+-- out nothing.
+pub record QuietLaw (s : LinkSetup) (link : LinkState) (E : List Event) (A : List Placed) (Q : List Sent) (n : ℕ) : Type 0 where
+  pub stands : StandsFor s (quiet_later n link) (E ++ Ticks n ∷ []) A Q
+  pub drained : pending (quiet_later n link) ≡ 0
+  pub wire : wire s (E ++ Ticks n ∷ []) A ≡ wire s E A
+  pub rest : quiet link ≤ quiet (quiet_later n link) + n

@@ -1,5 +1,5 @@
 -- A frame between the two halves in which a link takes it: what it asks, and what it does once that was asked.
-use Rattle.std.specs.Prelude.{◌≡◌, ◌≤◌, ℕ, IsTrue, List, Option, None, Some, is_some, if◌then◌else◌}
+use Rattle.std.specs.Prelude.{◌≡◌, ◌<◌, ◌≤◌, ◌⊎◌, ℕ, IsFalse, IsTrue, List, length, Option, None, Some, is_some, if◌then◌else◌}
 use Rattle.diag_can.specs.Event.{Event, Physical, Functional, Ticks}
 use Rattle.diag_pdu.specs.Kind.{Kind, Single, First, Overflow, Consecutive, FlowControl, Ignored, kind, says, single_only, room_to_begin, IsRead}
 use Rattle.diag_pdu.specs.declared.setup.LinkSetup.{LinkSetup}
@@ -11,7 +11,7 @@ use Rattle.diag_sides.specs.Receiver.{Receiving, open_after, completed_by, grant
 use Rattle.diag_sides.specs.Sender.{SenderState}
 use Rattle.diag_tp.specs.Kept.{no_flow, sender_frame}
 use Rattle.diag_tp.specs.State.{LinkState, LinkView}
-use Rattle.diag_tp.specs.Link.{is_frame, IsReadHere}
+use Rattle.diag_tp.specs.Link.{is_frame, has_reply_room, IsReadHere}
 
 -- what is left of a frame once its request stands with the link: nothing, the end of a reception, or all that its kind does
 pub data Left : Type 0 where
@@ -63,6 +63,25 @@ FitsIn view left.Single = Unit {0}
 FitsIn view left.Last = Unit {0}
 FitsIn view (left.Other pci) =
     IsRead view.state.setup.max_request (says pci) × (room_to_begin (says pci) ≤ view.room)
+
+-- what a frame needs that is begun may be lacking: a First needs room for its message, and a Single of more than 8 bytes, which is
+-- noted, memory
+abbrev pub LacksFor : ℕ → Kind → Type 0
+LacksFor room (Single payload) = 8 < length payload
+LacksFor room (First len rx_dl head) = room < len
+LacksFor room Overflow = ⊥
+LacksFor room (Consecutive sequence_number part) = ⊥
+LacksFor room (FlowControl flow_status block_size st_min) = ⊥
+LacksFor room Ignored = ⊥
+
+abbrev pub LacksMemory : LinkView → Event → Type 0
+LacksMemory view (Physical bytes) = LacksFor view.room (kind bytes view.state.setup.max_request)
+LacksMemory view (Functional bytes) = LacksFor view.room (single_only (kind bytes view.state.setup.max_request))
+LacksMemory view (Ticks n) = ⊥
+
+-- or room for one more reply
+abbrev pub LacksToBegin : LinkView → Event → Type 0
+LacksToBegin view event = LacksMemory view event ⊎ IsFalse (has_reply_room view)
 
 -- the request that the frame completes: noted by the link, or staged
 abbrev pub asked_in : LinkView → Taken → Option Request

@@ -1,6 +1,6 @@
 //! What a link does with an event, field by field: the histories that it stands for come in at its public calls.
 
-ghost use Rattle.std.specs.Prelude.{◌≡◌, ◌↔◌, ◌≤◌, ◌+◌, [], ◌∷◌, length, if◌then◌else◌, is_some, Some, min, max, None, option_and_then, IfSome, IsNone, IsSome, IfNone, IfOk, OnOk, IsTrue, ◌<◌, true, false};
+ghost use Rattle.std.specs.Prelude.{◌≡◌, ◌↔◌, ◌≤◌, ◌+◌, [], ◌∷◌, length, if◌then◌else◌, is_some, Some, min, max, None, option_and_then, IfSome, IsNone, IsSome, IfNone, IfOk, OnErr, OnOk, IsTrue, ◌⊎◌, ◌<◌, true, false};
 ghost use Rattle.diag_can.specs.Event.{Event as AnEvent};
 ghost use Rattle.diag_pdu.specs.Request.{request_of};
 ghost use Rattle.diag_pdu.specs.Cut.{cut};
@@ -10,9 +10,9 @@ ghost use Rattle.diag_sides.specs.Sender.{settled};
 ghost use Rattle.diag_tp.specs.Kept.{sender_event, sender_frame, sender_ticks};
 ghost use Rattle.diag_sides.specs.Receiver.{open_after, completed_by, granted_by, ticks_later, ask_of};
 ghost use Rattle.diag_tp.specs.State.{due};
-ghost use Rattle.diag_tp.specs.Taken.{IsTaken, FitsIn, asked_in, left_in, left_of_kind, once_settled};
+ghost use Rattle.diag_tp.specs.Taken.{IsTaken, FitsIn, LacksFor, LacksMemory, asked_in, left_in, left_of_kind, once_settled};
 ghost use Rattle.diag_sides.specs.Quiet.{reception_quiet, sender_quiet, reception_later, current_later};
-ghost use Rattle.diag_tp.specs.Link.{is_frame, last_tick, needed, asked_of, partial_after, grant_after, step_after, IsReadHere, IsIdle};
+ghost use Rattle.diag_tp.specs.Link.{is_frame, last_tick, pending, quiet, view_later, needed, peek_needs, asked_of, partial_after, grant_after, step_after, IsReadHere, IsIdle};
 
 use crate::link::Link;
 use crate::taken::Taken;
@@ -100,8 +100,9 @@ impl Link {
     /// What feeding this event would answer, from the fields.
     pub(crate) fn peek_request(&self, event: &LentEvent<'_>) -> Result<Option<Request>, AllocError>
         requires frame { IsTrue (is_frame event.now) }
-        ensures { IfOk result (λ request.
+        ensures ok { IfOk result (λ request.
             asked_of request ≡ step_after self.now.state.setup self.now.state.partial event.now) }
+        ensures err { OnErr result (IsTrue (peek_needs self.now.state event.now)) }
     {
         match event.kind() {
             EventKind::Physical(bytes) => Ok(asked(false, self.receiver.peek(self.read(&bytes))?)),
@@ -119,6 +120,7 @@ impl Link {
         requires frame { IsTrue (is_frame event.now) }
         ensures same { self.new.state ≡ self.old.state }
         ensures room { OnOk result (0 < self.new.reply_room) }
+        ensures err { OnErr result (LacksMemory self.old event.now ⊎ (self.old.reply_room ≡ 0)) }
         ensures request { IfOk result (λ taken. asked_of (asked_in self.new taken)
             ≡ step_after self.old.state.setup self.old.state.partial event.now) }
         ensures taken { IfOk result (λ taken. IsTaken self.old.state event.now taken) }
@@ -154,6 +156,7 @@ impl Link {
         requires kind { says pci ≡ kind bytes.now self.old.state.setup.max_request }
         requires read { IsRead self.old.state.setup.max_request (says pci) }
         ensures same { self.new.state ≡ self.old.state }
+        ensures err { OnErr result (LacksFor self.old.room (says pci.entry)) }
         ensures request { IfOk result (λ taken. asked_in self.new taken
             ≡ ask_of false (completed_by self.old.state.partial (says pci.entry))) }
         ensures taken { IfOk result (λ taken. left_in taken
@@ -182,6 +185,7 @@ impl Link {
     #[inline(always)]
     pub(crate) fn make_room_for(&mut self, event: &LentEvent<'_>) -> Result<(), AllocError>
         ensures ok { OnOk result (needed self.new.state.setup event.now ≤ self.new.room) }
+        ensures err { OnErr result (self.old.room < needed self.old.state.setup event.now) }
         ensures read { IsReadHere self.new.state.setup event.now }
         ensures kept { self.old.room ≤ self.new.room }
         ensures same { self.new.state ≡ self.old.state }
@@ -202,6 +206,7 @@ impl Link {
     fn make_room_for_single(&mut self, pci: Pci<'_>) -> Result<(), AllocError>
         requires read { IsRead 65535 (says pci) }
         ensures ok { OnOk result (needed_for (single_only (says pci.entry)) ≤ self.new.room) }
+        ensures err { OnErr result (self.old.room < needed_for (single_only (says pci.entry))) }
         ensures kept { self.old.room ≤ self.new.room }
         ensures same { self.new.state ≡ self.old.state }
         ensures reply_room { self.new.reply_room ≡ self.old.reply_room }
@@ -227,6 +232,7 @@ impl Link {
         requires some { 1 ≤ length payload.now }
         requires few { length payload.now ≤ 62 }
         ensures noted { OnOk result (self.new.noted ≡ request_of functional payload.now) }
+        ensures err { OnErr result (8 < length payload.now) }
         ensures same { self.new.state ≡ self.old.state }
         ensures room { self.new.room ≡ self.old.room }
         ensures reply_room { self.new.reply_room ≡ self.old.reply_room }
@@ -341,6 +347,22 @@ impl Link {
         self.ticks = self.ticks.saturating_add(u64::from(count));
         self.receiver.pass(self.setup.n_cr.get(), count);
         self.sender.pass(&self.setup, count);
+    }
+
+    /// So many ticks, in which nothing falls due and nothing ends.
+    #[tactic(auto, using(crate::proofs::Silence::quiet_drained), unfolding(crate::specs::Link::quiet_later))]
+    #[inline(always)]
+    pub(crate) fn pass_quietly(&mut self, count: u64)
+        requires drained { pending self.old.state ≡ 0 }
+        requires quiet { count < quiet self.old.state }
+        ensures { self.new ≡ view_later count self.old }
+    {
+        let n_cr = self.setup.n_cr.get();
+        prove!(n_cr <= 60000);
+        let ticks = &mut self.ticks;
+        *ticks = ticks.saturating_add(count);
+        self.receiver.pass_quietly(count);
+        self.sender.pass_quietly(count);
     }
 }
 

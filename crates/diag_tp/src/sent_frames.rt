@@ -1,9 +1,10 @@
 //! Lists of frames that were sent.
 
-ghost use Rattle.std.specs.Prelude.{◌≡◌, ◌<◌, ◌≤◌, ◌+◌, ◌++◌, [], ◌∷◌, length, slice_get, Some, OnOk, IfOk, IsTrue, ◌↔◌, ◌^◌, vec_len, vec_capacity};
+ghost use Rattle.std.specs.Prelude.{◌≡◌, ◌<◌, ◌≤◌, ◌+◌, ◌++◌, [], ◌∷◌, length, slice_get, Some, OnErr, OnOk, IfOk, ◌⊎◌, IsFalse, IsTrue, ◌↔◌, ◌^◌, vec_len, vec_capacity};
 ghost use Rattle.diag_tp.specs.declared.sent.Sent.{Sent as ASent};
-ghost use Rattle.diag_tp.specs.Link.{pending, unsent};
-ghost use Rattle.diag_tp.specs.SentFrames.{HandsOn, HasRoom};
+ghost use Rattle.diag_tp.specs.Link.{pending};
+ghost use Rattle.diag_pdu.specs.declared.length.DataLength.TheVariants.{Dl8};
+ghost use Rattle.diag_tp.specs.SentFrames.{HasPlaces, HasRoom, LacksPlaces, TookNext, TookNone};
 
 use crate::link::Link;
 use diag_can::{CanId, FdBytes, Frame, FrameBytes};
@@ -32,6 +33,19 @@ impl Model for ShortSent {
 }
 
 impl ShortSent {
+    /// A frame that goes at this time.
+    #[inline(always)]
+    fn of(at: u64, frame: Frame) -> ShortSent
+        ensures { result ≡ record { at = at; frame = frame } }
+    {
+        ShortSent {
+            at,
+            id: frame.id,
+            len: frame.bytes.len() as u32,
+            bytes: *frame.bytes.places(),
+        }
+    }
+
     /// The bytes of the frame.
     #[inline(always)]
     fn as_slice(&self) -> &[u8]
@@ -81,21 +95,27 @@ impl Model for SentFrames {
 }
 
 impl SentFrames {
-    /// No frames.
+    /// No frames, no room, and none of more than 8 bytes to come.
     pub fn new(alloc: Global) -> SentFrames
-        ensures { result.items ≡ [] }
+        ensures items { result.items ≡ [] }
+        ensures room { result.room ≡ 0 }
+        ensures short { IsFalse result.is_long }
     {
         SentFrames {
             list: FrameList::Short(Vec::new(alloc)),
         }
     }
 
-    /// Makes room for so many more frames of a side that sends frames of up to this length. Refused where memory is; the
-    /// frames stay.
+    /// Makes room for so many more frames of a side that sends frames of up to this length.
+    ///
+    /// # Errors
+    /// `AllocError` where so much room isn't there, and memory is refused; all is as it was then.
     #[inline(always)]
     pub fn reserve(&mut self, tx_dl: DataLength, count: usize) -> Result<(), AllocError>
         ensures same { self.new.items ≡ self.old.items }
         ensures room { OnOk result (HasRoom tx_dl count self.new) }
+        ensures err { OnErr result (LacksPlaces tx_dl count self.old) }
+        ensures left { OnErr result (self.new ≡ self.old) }
         ensures small { self.new.room < 2 ^ 63 }
     {
         match &mut self.list {
@@ -111,7 +131,9 @@ impl SentFrames {
     fn lengthen(&mut self, count: usize) -> Result<(), AllocError>
         ensures same { self.new.items ≡ self.old.items }
         ensures room { OnOk result (count ≤ self.new.room) }
-        ensures long_room { OnOk result (count ≤ self.new.long_room) }
+        ensures long { OnOk result (IsTrue self.new.is_long) }
+        ensures err { OnErr result ((self.old.room < count) ⊎ IsFalse self.old.is_long) }
+        ensures left { OnErr result (self.new ≡ self.old) }
         ensures small { self.new.room < 2 ^ 63 }
     {
         match &mut self.list {
@@ -129,37 +151,29 @@ impl SentFrames {
         requires { 0 < self.old.room }
         ensures items { self.new.items ≡ self.old.items ++ record { at = at; frame = frame } ∷ [] }
         ensures room { self.old.room ≡ self.new.room + 1 }
-        ensures long_room { self.old.long_room ≤ self.new.long_room + 1 }
+        ensures long { self.new.is_long ≡ self.old.is_long }
     {
         match &mut self.list {
-            FrameList::Short(list) => list.push_reserved(ShortSent {
-                at,
-                id: frame.id,
-                len: frame.bytes.len() as u32,
-                bytes: *frame.bytes.places(),
-            }),
+            FrameList::Short(list) => list.push_reserved(ShortSent::of(at, frame)),
             FrameList::Long(list) => push_lengthened(list, at, frame.id, frame.bytes),
         }
     }
 
-    /// Takes the next frame that is due of a link that sends frames of any length, which goes at this time. It is made where it
-    /// stays.
-    #[inline(never)]
-    pub fn take_next(&mut self, at: u64, link: &mut Link)
-        requires room { 0 < self.old.long_room }
-        requires due { 0 < pending link.old.state }
-        ensures next { HandsOn at link.old.state link.new.state self.old.items self.new.items }
-        ensures room { self.old.room ≡ self.new.room + 1 }
-        ensures long_room { self.old.long_room ≡ self.new.long_room + 1 }
-        ensures fewer { (pending link.old.state ≡ pending link.new.state + 1)
-            × (unsent link.old.state ≡ unsent link.new.state + 1) }
-        ensures reply_rooms { link.old.reply_room ≤ link.new.reply_room }
-        ensures time { link.new.state.now ≡ link.old.state.now }
-        ensures setup { link.new.state.setup ≡ link.old.state.setup }
+    /// Takes the next frame that is due of a link, which goes at this time; whether there is one.
+    #[tactic(auto, using(crate::proofs::Places::is_classic))]
+    #[inline(always)]
+    pub fn take_next(&mut self, at: u64, link: &mut Link) -> bool
+        requires places { HasPlaces link.old.state.setup.framing.tx_dl self.old }
+        requires room { 0 < pending link.old.state → 0 < self.old.room }
+        ensures took { IsTrue result → TookNext at link.old link.new self.old.items self.new.items }
+        ensures room { IsTrue result → self.old.room ≡ self.new.room + 1 }
+        ensures none { IsFalse result → TookNone link.old link.new }
+        ensures same { IsFalse result → self.new ≡ self.old }
+        ensures long { self.new.is_long ≡ self.old.is_long }
     {
         match &mut self.list {
-            FrameList::Short(_) => unreachable!(),
-            FrameList::Long(list) => push_next(list, at, link),
+            FrameList::Short(list) => push_short(list, at, link),
+            FrameList::Long(list) => push_long(list, at, link),
         }
     }
 
@@ -168,7 +182,7 @@ impl SentFrames {
     pub fn clear(&mut self)
         ensures items { self.new.items ≡ [] }
         ensures room { self.old.room ≤ self.new.room }
-        ensures long_room { self.old.long_room ≤ self.new.long_room }
+        ensures long { self.new.is_long ≡ self.old.is_long }
     {
         match &mut self.list {
             FrameList::Short(list) => list.clear(),
@@ -280,20 +294,37 @@ fn push_bytes(list: &mut Vec<LongSent>, at: u64, id: CanId, bytes: &[u8])
     });
 }
 
-/// Adds the next frame that is due of a link, which goes at this time.
+/// Adds the next frame that is due of a link that sends classic frames, if there is one.
 #[inline(always)]
-fn push_next(list: &mut Vec<LongSent>, at: u64, link: &mut Link)
-    requires room { vec_len list.old < vec_capacity list.old }
-    requires due { 0 < pending link.old.state }
-    ensures next { HandsOn at link.old.state link.new.state list.old.items list.new.items }
-    ensures len { vec_len list.new ≡ vec_len list.old + 1 }
+fn push_short(list: &mut Vec<ShortSent>, at: u64, link: &mut Link) -> bool
+    requires classic { link.old.state.setup.framing.tx_dl ≡ Dl8 }
+    requires room { 0 < pending link.old.state → vec_len list.old < vec_capacity list.old }
+    ensures took { IsTrue result → TookNext at link.old link.new list.old.items list.new.items }
+    ensures len { IsTrue result → vec_len list.new ≡ vec_len list.old + 1 }
     ensures capacity { vec_capacity list.new ≡ vec_capacity list.old }
-    ensures fewer { (pending link.old.state ≡ pending link.new.state + 1)
-        × (unsent link.old.state ≡ unsent link.new.state + 1) }
-    ensures reply_rooms { link.old.reply_room ≤ link.new.reply_room }
-    ensures time { link.new.state.now ≡ link.old.state.now }
-    ensures setup { link.new.state.setup ≡ link.old.state.setup }
+    ensures none { IsFalse result → TookNone link.old link.new }
+    ensures same { IsFalse result → list.new ≡ list.old }
 {
+    let Some(frame) = link.next_frame() else {
+        return false;
+    };
+    list.push_reserved(ShortSent::of(at, frame));
+    true
+}
+
+/// Adds the next frame that is due of a link that sends frames of any length, if there is one. It is made where it stays.
+#[inline(never)]
+fn push_long(list: &mut Vec<LongSent>, at: u64, link: &mut Link) -> bool
+    requires room { 0 < pending link.old.state → vec_len list.old < vec_capacity list.old }
+    ensures took { IsTrue result → TookNext at link.old link.new list.old.items list.new.items }
+    ensures len { IsTrue result → vec_len list.new ≡ vec_len list.old + 1 }
+    ensures capacity { vec_capacity list.new ≡ vec_capacity list.old }
+    ensures none { IsFalse result → TookNone link.old link.new }
+    ensures same { IsFalse result → list.new ≡ list.old }
+{
+    if link.is_drained() {
+        return false;
+    }
     let index = list.len();
     list.push_reserved(LongSent {
         at,
@@ -301,6 +332,7 @@ fn push_next(list: &mut Vec<LongSent>, at: u64, link: &mut Link)
         bytes: FdBytes::new(),
     });
     let _id = link.next_long_frame(&mut list[index].bytes);
+    true
 }
 
 /// These frames where longer ones have room, too, and room for so many more.

@@ -1,50 +1,16 @@
-use Rattle.std.proofs.Common.{◌≡◌, ◌<◌, ◌+◌, ◌∷◌, [], ◌++◌, ap, subst, sym, ◌∙◌, arith}
-use Rattle.std.proofs.lemmas.List.{append-nil}
-use Rattle.diag_can.specs.Event.{Ticks}
-use Rattle.diag_tp.specs.Moments.{history, last_time}
-use Rattle.diag_tp.specs.Wire.{wire}
-use Rattle.diag_tp.specs.Link.{StandsFor}
-use Rattle.diag_port.specs.Held.{until_due}
-use Rattle.diag_port.specs.Late.{placed_late}
-use Rattle.diag_port.specs.Port.{HandedOut, PortState}
-use Rattle.diag_port.proofs.PortLemmas.{asked_on, goes_quietly, later_due, not_due_within}
-use Rattle.diag_port.proofs.Quiet.{all_out}
-use Rattle.diag_port.proofs.Within.{within_none}
+use Rattle.std.proofs.Common.{◌≡◌, ◌+◌, ℕ, [], min, ap, subst, arith}
+use Rattle.diag_tp.specs.Link.{last_tick, quiet_later}
+use Rattle.diag_port.specs.Port.{Passed, port_of}
 use Rattle.diag_port.proofs.passing.pass_quiet.Goals as goal
 
 pub returns-clause-passed : goal.returns-clause-passed
 returns-clause-passed c =
-    let n = c.args.count in
-    let old = c.args.port.now in
-    let new = c.advance.new.self in
-    let none = c.advance.ensures.silent (omega (arith, c.requires.quiet)) in (
-      within_none _ _,
-      λ s E L Q h time.
-          let E' = E ++ Ticks n ∷ [] in
-          let A = placed_late (history E) 0 L in
-          let clock : old.link.state.now ≡ last_time E = h.stands.now ∙ omega (arith, time) in
-          let few : n < until_due (last_time E) old.held.messages = subst (λ t. n < until_due t old.held.messages) clock (omega (arith, c.requires.quiet)) in
-          let goes = goes_quietly E L n old.held.messages h.asked h.held few in
-          let moved = c.advance.ensures.stands s E A Q h.stands in
-          let all = all_out s new.state E' A Q moved none in
-          let after : PortState = record { link = new.state; held = old.held.messages; pace = old.pace } in
-          let whole : HandedOut s after E' L Q = record {
-            stands = record {
-              stands = subst (λ x. StandsFor s new.state E' x Q) (sym goes.placed) moved;
-              held = sym goes.held;
-              asked = asked_on E n L h.asked;
-            };
-            all = all ∙ ap (wire s E') (sym goes.placed);
-          } in
-          subst (λ q. HandedOut s after E' L q) (sym (append-nil Q)) whole,
-    )
+    let same : c.from.result ≡ c.args.count = omega (arith, c.from.ensures, c.get.ensures.value) in
+    subst (λ (n : ℕ). Passed (port_of c.args.port.now) (port_of c.advance_quietly.new.self) n []) same c.advance_quietly.ensures.passed
 
-pub returns-clause-rest : goal.returns-clause-rest
-returns-clause-rest c =
-    let old = c.args.port.now in
-    let due = not_due_within old.link.state.now c.args.count old.held.messages (omega (arith, c.requires.quiet)) in
-    record {
-      drained = c.advance.ensures.silent (omega (arith, c.requires.quiet));
-      none_due = later_due (old.link.state.now + c.args.count) c.advance.new.self.state.now old.held.messages (omega (arith, c.advance.ensures.time)) due;
-      rooms = omega (arith, c.requires.rest.rooms, c.advance.ensures.reply_rooms);
-    }
+pub returns-clause-time : goal.returns-clause-time
+unfolding quiet_later
+returns-clause-time c =
+    let now : c.advance_quietly.new.self.link.state.now ≡ min (c.args.port.now.link.state.now + c.from.result) last_tick =
+    ap (λ p. p.link.state.now) c.advance_quietly.ensures.later in
+    omega (arith, now, c.from.ensures, c.get.ensures.value)

@@ -1,13 +1,11 @@
 use Rattle.std.proofs.Common.{◌≡◌, ◌≤◌}
-use Rattle.diag_pdu.specs.declared.length.DataLength.TheVariants.{Dl8}
 use Rattle.diag_tp.specs.Link.{pending}
 use Rattle.diag_port.specs.Port.{Grew, HasRoomFor, KeepsFrameRoom}
 use Rattle.diag_port.proofs.Handing.{Handed}
 use Rattle.diag_port.proofs.passing.send_frames.Given as goal
 
-abbrev pub invariant-loop-frame : goal.invariant-loop-frame
-invariant-loop-frame l = record {
-  classic : l.link.state.setup.framing.tx_dl ≡ Dl8;
+abbrev pub invariant-loop : goal.invariant-loop
+invariant-loop l = record {
   room : HasRoomFor l.link.state (pending l.link.state) l.out;
   grew : Grew l.initial.out.items l.out.items (Handed l.initial.link.state l.link.state l.at);
   now : l.at ≡ l.initial.link.state.now;
@@ -16,5 +14,5 @@ invariant-loop-frame l = record {
   rooms : l.initial.link.reply_room ≤ l.link.reply_room;
 }
 
-abbrev pub decreases-loop-frame : goal.decreases-loop-frame
-decreases-loop-frame l = pending l.link.state
+abbrev pub decreases-loop : goal.decreases-loop
+decreases-loop l = pending l.link.state

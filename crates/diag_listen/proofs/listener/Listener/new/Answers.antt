@@ -7,6 +7,6 @@ pub returns-clause-listens : goal.returns-clause-listens
 unfolding open_at
 returns-clause-listens c = record {
   stands = c.new-2.ensures;
-  partial = c.new.ensures;
-  coming = ap is_some c.new-2.ensures.is_coming ∙ sym (ap is_some c.new.ensures);
+  partial = c.new.ensures.partial;
+  coming = ap is_some c.new-2.ensures.is_coming ∙ sym (ap is_some c.new.ensures.partial);
 }
