@@ -1,6 +1,6 @@
 -- What is compared, and what the status of `compare` says.
-use Rattle.std.specs.Prelude.{◌≡◌, ◌==◌, ℕ, Bool, true, List, [], ◌∷◌, ◌++◌, map, slice_get, slice_index, Option, None}
-use Rattle.std.specs.List.{All, filter, flat_map, list_any}
+use Rattle.std.specs.Prelude.{◌≡◌, ◌⊎◌, ◌↔◌, ℕ, Bool, true, false, List, [], ◌∷◌, ◌++◌, map, slice_get, slice_index, Option, None}
+use Rattle.std.specs.List.{All, AllZip, Any, filter, flat_map}
 use Rattle.std.specs.Option.{option_to_list}
 use Rattle.diag_pdu.specs.declared.step.Step.{Step}
 use Rattle.diag_pdu.specs.declared.step.Step.TheVariants as step
@@ -12,16 +12,16 @@ use Rattle.diag_bus.specs.Events.{events_of}
 use Rattle.diag_bus.specs.Text.{run_of}
 use Rattle.diag_bus.specs.Verdict.{IsNumber}
 use Rattle.diag_exchange.specs.Agreeing.{is_compared}
-use Rattle.diag_exchange.specs.Asking.{Course, comes_in, completes, courses}
-use Rattle.diag_exchange.specs.Exchanges.{exchange}
-use Rattle.diag_exchange.specs.Meaning.{Means}
+use Rattle.diag_exchange.specs.Asking.{Course, answer, comes_in, completes, courses}
+use Rattle.diag_exchange.specs.Meaning.{IsAnswer, Means}
 use Rattle.diag_exchange.specs.Taking.{is_exchange}
 use Rattle.diag_exchange.specs.declared.happening.Expected.{Expected}
 use Rattle.diag_exchange.specs.declared.happening.Happening.{Happening}
 use Rattle.diag_exchange.specs.declared.happening.Heard.{Heard}
 use Rattle.diag_exchange.specs.Over.{Over}
 use Rattle.diag_exchange.specs.declared.happening.Start.{Start}
-use Rattle.diag_compare.specs.Compare.{all_exchanges, beside, exchanges, open_for, over_by, status}
+use Rattle.diag_expect.specs.Expecting.{entered_of, expected_of, is_ignored}
+use Rattle.diag_compare.specs.Compare.{beside, exchanges, open_for, over_by, status}
 use Rattle.diag_compare.specs.Expects.{expects}
 use Rattle.diag_compare.specs.Hearing.{happenings, in_states, is_of, unit_events, unit_side}
 
@@ -45,54 +45,77 @@ AsksLaw = (expects : State → Entry → Expected) (setup : RawSetup) (lines : L
     → map question (courses (happenings expects setup t lines))
     ≡ flat_map (entry_question expects) (filter (is_of t) (in_states (opening setup) (run_of setup (events_of setup lines))))
 
-module _ (expects : State → Entry → Expected) (setup : RawSetup) (lines : List (List ℕ)) where
-  -- the server's reply is what the unit sent to each request of each tester, but where the request is ignored, for
-  -- bytes that vary and for the order of records; it sent nothing unasked, and something that is compared
-  pub record AllAgree : Type 0 where
-    pub answered : (t : ℕ) → IsNumber setup t → All (λ c. Means (exchange c)) (courses (happenings expects setup t lines))
-    pub asked : (t : ℕ) → IsNumber setup t → All (λ o. is_exchange o ≡ true) (exchanges expects setup lines t)
-    pub some : list_any is_compared (all_exchanges expects setup lines) ≡ true
+-- ---- the status
 
--- that is what a status of 0 means
+module _ (expects : State → Entry → Expected) (setup : RawSetup) (lines : List (List ℕ)) where
+  -- to each request of a tester the unit sent the server's reply, but where the request is ignored, for response pending, for
+  -- bytes that vary and for the order of records; and it sent nothing unasked
+  abbrev pub TesterAgrees : ℕ → Type 0
+  TesterAgrees t = All Means (exchanges expects setup lines t)
+
+  -- so of every tester
+  abbrev pub AllAgree : Type 0
+  AllAgree = (t : ℕ) → IsNumber setup t → TesterAgrees t
+
+  -- of some tester it isn't so
+  pub record SomeDiffers : Type 0 where
+    pub tester : ℕ
+    pub number : IsNumber setup tester
+    pub differs : Any (λ o. Means o → ⊥) (exchanges expects setup lines tester)
+
+  -- of some tester the unit sent a message that is compared
+  pub record SomeCompared : Type 0 where
+    pub tester : ℕ
+    pub number : IsNumber setup tester
+    pub compared : Any (λ o. is_compared o ≡ true) (exchanges expects setup lines tester)
+
+  -- what a status says: one of these three
+  pub record StatusMeans (n : ℕ) : Type 0 where
+    pub agree : (n ≡ 0) ↔ (AllAgree × SomeCompared)
+    pub differ : (n ≡ 8) ↔ SomeDiffers
+    pub nothing : (n ≡ 9) ↔ (AllAgree × (SomeCompared → ⊥))
+    pub only : (n ≡ 0) ⊎ ((n ≡ 8) ⊎ (n ≡ 9))
+
 abbrev pub StatusLaw : Type 0
 StatusLaw = (expects : State → Entry → Expected) (setup : RawSetup) (lines : List (List ℕ))
-    → status expects setup lines ≡ 0
-    → AllAgree expects setup lines
+    → StatusMeans expects setup lines (status expects setup lines)
 
 -- ---- beside the run
 
--- a request with the server's reply
-abbrev pub Answer : Type 0
-Answer = Bool × List ℕ × Option (List ℕ)
+abbrev pub is_request : Step → Bool
+is_request (step.Request request) = true
+is_request (step.Ticks n) = false
 
-abbrev pub expected_answer : Course → Answer
-expected_answer c = (c.request.functional, c.request.bytes, c.request.expected.reply)
+abbrev pub asks_something : State × Entry → Bool
+asks_something e = is_request e.1.step
 
-abbrev pub step_answer : Step → Option (List ℕ) → List Answer
-step_answer (step.Request request) reply = (request.functional, request.message, reply) ∷ []
-step_answer (step.Ticks n) reply = []
+-- the requests of a tester in the one run of the lines, in their order, each with the state before it
+abbrev pub run_requests : RawSetup → List (List ℕ) → ℕ → List (State × Entry)
+run_requests setup lines t =
+    filter asks_something (filter (is_of t) (in_states (opening setup) (run_of setup (events_of setup lines))))
 
-abbrev pub entry_answer : Entry → List Answer
-entry_answer e = step_answer e.step e.reply
+-- The exchange of a request: the unit sent to it this reply of the server's, but for response pending, for bytes that vary and
+-- for the order of records; or it is ignored.
+abbrev pub StepAnswered : RawSetup → State → ℕ → Step → Option (List ℕ) → Course → Type 0
+StepAnswered setup s who (step.Ticks n) reply c = ⊥
+StepAnswered setup s who (step.Request request) reply c =
+    (c.request.functional ≡ request.functional) × (c.request.bytes ≡ request.message)
+    × ((is_ignored setup request.message ≡ true)
+    ⊎ IsAnswer (expected_of setup (entered_of s who request reply)) (answer c) reply)
 
-abbrev pub is_entry_of : ℕ → Entry → Bool
-is_entry_of t e = e.who == t
+abbrev pub IsAnswered : RawSetup → State × Entry → Course → Type 0
+IsAnswered setup e c = StepAnswered setup e.0 e.1.who e.1.step e.1.reply c
 
--- A tester's exchanges are those of its requests in the one run of the lines, in their order and each with the reply that it
--- has there. That reply is what the unit sent, but where the request is ignored, for response pending, for bytes that vary
--- and for the order of records; and it sent nothing unasked.
-pub record AgreesWithRun (setup : RawSetup) (lines : List (List ℕ)) (t : ℕ) : Type 0 where
-  pub run : map expected_answer (courses (happenings (expects setup) setup t lines))
-      ≡ flat_map entry_answer (filter (is_entry_of t) (run_of setup (events_of setup lines)))
-  pub answered : All (λ c. Means (exchange c)) (courses (happenings (expects setup) setup t lines))
+-- a tester's exchanges are those of its requests in the run, in their order; each is answered as the run has it, and the unit
+-- sent nothing unasked
+pub record AnswersRun (setup : RawSetup) (lines : List (List ℕ)) (t : ℕ) : Type 0 where
+  pub answered : AllZip (IsAnswered setup) (run_requests setup lines t) (courses (happenings (expects setup) setup t lines))
   pub asked : All (λ o. is_exchange o ≡ true) (exchanges (expects setup) setup lines t)
 
--- so a status of 0 says of every tester
-abbrev pub AgreedLaw : Type 0
-AgreedLaw = (setup : RawSetup) (lines : List (List ℕ)) (t : ℕ)
-    → status (expects setup) setup lines ≡ 0
-    → IsNumber setup t
-    → AgreesWithRun setup lines t
+-- that is what it means that they agree
+abbrev pub AnswersLaw : Type 0
+AnswersLaw = (setup : RawSetup) (lines : List (List ℕ)) (t : ℕ)
+    → TesterAgrees (expects setup) setup lines t ↔ AnswersRun setup lines t
 
 -- ---- what was heard
 

@@ -1,6 +1,6 @@
 //! What holds of the definitions, as contracts.
 
-ghost use Rattle.diag_compare.specs.Meaning.{AgreedLaw, AsksLaw, HeadsLaw, HeardLaw, StatusLaw, TellsLaw};
+ghost use Rattle.diag_compare.specs.Meaning.{AnswersLaw, AsksLaw, HeadsLaw, HeardLaw, StatusLaw, TellsLaw};
 
 /// The requests of a tester that are compared are those of the journal of the run.
 pub fn asks_law()
@@ -22,13 +22,14 @@ pub fn tells_law()
     ensures { TellsLaw }
 {}
 
-/// Where the status is 0, the unit sent to each request what the server replies, as `agrees` says, and nothing unasked.
+/// The status is 0 exactly where everything agrees and something was compared, 8 exactly where something differs, and 9 exactly
+/// where everything agrees and nothing was compared; and it is one of these.
 pub fn status_law()
     ensures { StatusLaw }
 {}
 
-/// Where the status is 0, each tester's exchanges are those of the run of the capture, and the unit sent what it replies there,
-/// as `agrees` says.
-pub fn agreed_law()
-    ensures { AgreedLaw }
+/// A tester's exchanges agree exactly where they are those of its requests in the run of the capture, the unit sent to each
+/// what the server replies there, as `IsAnswered` says, and it sent nothing unasked.
+pub fn answers_law()
+    ensures { AnswersLaw }
 {}

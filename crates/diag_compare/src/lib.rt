@@ -3,4 +3,4 @@
 
 mod laws;
 
-pub use laws::{agreed_law, asks_law, heads_law, heard_law, status_law, tells_law};
+pub use laws::{answers_law, asks_law, heads_law, heard_law, status_law, tells_law};

@@ -51,6 +51,28 @@ module _ (setup : RawSetup) (lines : List (List ℕ)) (K : List Entry) (k : Entr
   pub other_tester : (t : ℕ) (own : Tester) → k.who ≢ t → IsTester setup lines K t own → IsTester setup lines (K ++ k ∷ []) t own
   other_tester t own apart h = record { judges = h.judges; link_setup = h.link_setup; entered = h.entered ∙ sym (entered_other t apart) }
 
+-- ---- the same
+
+module _ (setup : RawSetup) (lines : List (List ℕ)) (K : List Entry) where
+  -- a tester of which the same is kept
+  pub same_tester : (t : ℕ) (own new : Tester) → new.listener ≡ own.listener → new.counts ≡ own.counts → new.entered.items ≡ own.entered.items
+      → IsTester setup lines K t own → IsTester setup lines K t new
+  same_tester t own new listener counts entered h = record {
+    judges = record {
+      listens = subst (λ (l : Listener). Listens l (unit_events setup t lines) (happenings (expects setup) setup t lines)) (sym listener) h.judges.listens;
+      counts = counts ∙ h.judges.counts;
+    };
+    link_setup = ap (λ (l : Listener). l.setup) listener ∙ h.link_setup;
+    entered = entered ∙ h.entered;
+  }
+
+  pub one_same : (testers : List Tester) (i : ℕ) (new : Tester) → AreTesters setup lines K testers → IsTester setup lines K (i + 1) new
+      → AreTesters setup lines K (slice_set testers i new)
+  one_same testers i new h own = λ j tester is. elim (set_cases testers i j new tester is) [
+    | inl p ↦ subst (λ (x : Tester). IsTester setup lines K (j + 1) x) (sym p.1) (subst (λ (k : ℕ). IsTester setup lines K (k + 1) new) (sym p.0) own)
+    | inr p ↦ h j tester p.1
+  ]
+
 -- ---- a request
 
 module _ (setup : RawSetup) (lines : List (List ℕ)) (K : List Entry) (who : ℕ) (request : Request) (reply : Option (List ℕ)) where

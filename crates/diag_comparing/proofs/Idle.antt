@@ -13,12 +13,12 @@ use Rattle.diag_world.proofs.Worlds.{set_cases}
 use Rattle.diag_bus.specs.Events.{frame_said}
 use Rattle.diag_exchange.specs.Over.{Over}
 use Rattle.diag_exchange.specs.declared.happening.CaptureLine.{CaptureLine}
-use Rattle.diag_judge.specs.Judging.{JudgesLine}
+use Rattle.diag_judge.specs.Judging.{IsIdle, JudgesLine}
 use Rattle.diag_judge.specs.declared.tester.Tester.{Tester}
 use Rattle.diag_judge.proofs.Lines.{idle_judged}
 use Rattle.diag_compare.specs.Compare.{over_by}
 use Rattle.diag_compare.specs.Expects.{expects}
-use Rattle.diag_comparing.specs.Idle.{AreIdleOutside, HasNoneOutside, IsIdle, IsOutside, IsWider}
+use Rattle.diag_comparing.specs.Idle.{AreIdleOutside, HasNoneOutside, IsOutside, IsWider}
 use Rattle.diag_comparing.specs.Keeping.{AreTesters, IsLine, IsTester, IsUnitFrame, bytes_with, judged_pair}
 use Rattle.diag_comparing.specs.declared.exchange_lines.UnitFrame.{UnitFrame}
 use Rattle.diag_comparing.specs.declared.range.Range.{Range}

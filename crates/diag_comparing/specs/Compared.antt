@@ -3,7 +3,7 @@ use Rattle.std.specs.Prelude.{◌≡◌, ℕ, Bool, List, Result, Ok}
 use Rattle.diag_setup.specs.declared.raw.RawSetup.{RawSetup}
 use Rattle.diag_compare.specs.Compare.{closing, compare_text, compared, status}
 use Rattle.diag_compare.specs.Expects.{expects}
-use Rattle.diag_compare.specs.Meaning.{AllAgree}
+use Rattle.diag_compare.specs.Meaning.{StatusMeans}
 use Rattle.diag_run.specs.Capture.{capture_text}
 use Rattle.diag_run.specs.Wanted.{End, EndsWith, Wanted, end_with}
 
@@ -18,11 +18,11 @@ compared_wanted differences = record {
   ends = compared_end differences;
 }
 
--- The text is that of the capture's exchanges, and the status theirs; with a status of 0 all agree.
+-- The text is that of the capture's exchanges, and the status theirs, which says what a status means.
 pub record IsCompared (differences : Bool) (setup : RawSetup) (lines : List (List ℕ)) (want : Wanted) : Type 0 where
   pub text : capture_text want setup lines ≡ compare_text (expects setup) setup differences lines
   pub ended : EndsWith (want.ends setup lines) (status (expects setup) setup lines)
-  pub agree : EndsWith (want.ends setup lines) 0 → AllAgree (expects setup) setup lines
+  pub means : (n : ℕ) → EndsWith (want.ends setup lines) n → StatusMeans (expects setup) setup lines n
 
 abbrev pub ComparedLaw : Type 0
 ComparedLaw = (differences : Bool) (setup : RawSetup) (lines : List (List ℕ))

@@ -1,13 +1,10 @@
 -- Which testers are idle: time alone changes nothing for them.
-use Rattle.std.specs.Prelude.{◌≡◌, ◌<◌, ◌≤◌, ◌+◌, ◌⊎◌, ℕ, List, [], Option, Some, None, slice_get}
+use Rattle.std.specs.Prelude.{◌≡◌, ◌<◌, ◌≤◌, ◌+◌, ◌⊎◌, ℕ, List, Option, Some, None, slice_get}
+use Rattle.diag_judge.specs.Judging.{IsIdle}
 use Rattle.diag_judge.specs.declared.tester.Tester.{Tester}
 use Rattle.diag_comparing.specs.Keeping.{bytes_to}
 use Rattle.diag_comparing.specs.declared.exchange_lines.UnitFrame.{UnitFrame}
 use Rattle.diag_comparing.specs.declared.range.Range.{Range}
-
--- no request was entered, and no message is coming in
-abbrev pub IsIdle : Tester → Type 0
-IsIdle own = (own.entered.items ≡ []) × (own.listener.exchanges.coming ≡ None)
 
 -- by indices from 0
 abbrev pub IsOutside : Range → ℕ → Type 0

@@ -10,9 +10,9 @@ ghost use Rattle.diag_comparing.specs.Keeping.{CountsEach, EndsEach, HasTaken, c
 
 use crate::exchange_lines::ExchangeLines;
 use crate::telling::write_batch;
+use diag_can::KeptStamp;
 use diag_judge::{Counts, Judged, Tester};
 use diag_setup::Setup;
-use diag_told::Second;
 use itoa::Buffer;
 use std::alloc::{AllocError, Global};
 
@@ -147,7 +147,7 @@ impl ExchangeLines {
             &self.stamps,
             self.differences,
             &mut judged,
-            &mut Second::new(),
+            &mut KeptStamp::new(),
             &mut end,
         )?;
         add_counts(&mut end, setup, counts.as_slice())?;

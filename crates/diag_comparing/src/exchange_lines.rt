@@ -12,22 +12,21 @@ ghost use Rattle.diag_bus.specs.ResponseIds.{AreResponsesOf};
 ghost use Rattle.diag_bus.specs.Text.{ecu_after};
 ghost use Rattle.diag_port.specs.Port.{Grew};
 ghost use Rattle.diag_compare.specs.Hearing.{unit_side};
-ghost use Rattle.diag_comparing.specs.Idle.{AreIdleOutside, HasNoneOutside, IsIdle, IsOutside, IsWider};
+ghost use Rattle.diag_comparing.specs.Idle.{AreIdleOutside, HasNoneOutside, IsOutside, IsWider};
 ghost use Rattle.diag_comparing.specs.Keeping.{HasTaken, IsUnitFrame, TakesEach, TakesEnd, bytes_to};
-ghost use Rattle.diag_judge.specs.Judging.{bytes_in};
+ghost use Rattle.diag_judge.specs.Judging.{IsIdle, bytes_in};
 
 use crate::range::Range;
 use crate::stamps::Stamps;
 use crate::telling::write_batch;
 use diag_bus::{Clock, ResponseIds};
-use diag_can::{BusLine, FrameText, TickCount};
+use diag_can::{BusLine, FrameText, KeptStamp, TickCount};
 use diag_ecu::Ecu;
 use diag_exchange::{CaptureLine, Spare};
 use diag_expect::Entered;
 use diag_judge::{Judged, Tester};
 use diag_pdu::{LinkSetup, Message, Request};
 use diag_setup::{Setup, TesterId};
-use diag_told::Second;
 use std::alloc::{AllocError, Global};
 
 /// What is kept of a recording: of each tester the exchanges that aren't over, and how many were.
@@ -51,8 +50,8 @@ pub struct ExchangeLines {
     pub batch: Vec<Judged>,
     /// Boxes for exchanges to come.
     pub spare: Spare,
-    /// The second of the last stamp that was told.
-    pub second: Second,
+    /// The last stamp that was told.
+    pub last: KeptStamp,
 }
 
 /// The longest message that a listener takes, in bytes.
@@ -198,7 +197,8 @@ fn give_back(told: &mut Vec<Judged>, spare: &mut Spare)
 impl ExchangeLines {
     /// What is kept before a setup is known.
     pub fn new(alloc: Global, differences: bool) -> ExchangeLines
-        ensures { result.differences ≡ differences }
+        ensures differences { result.differences ≡ differences }
+        ensures none { (result.lines ≡ 0) × (result.testers.items ≡ []) }
     {
         ExchangeLines {
             differences,
@@ -211,18 +211,19 @@ impl ExchangeLines {
             busy: Range::none(),
             batch: Vec::new(alloc),
             spare: Spare::new(alloc),
-            second: Second::new(),
+            last: KeptStamp::new(),
         }
     }
 
     /// Begins for the testers of a setup.
     ///
     /// # Errors
-    /// `AllocError` where memory is refused.
+    /// `AllocError` where memory is refused, and then nothing has changed.
     pub fn set_up(&mut self, alloc: Global, setup: &Setup) -> Result<(), AllocError>
         ensures taken { OnOk result (HasTaken self.new setup.now [] []) }
         ensures responses { OnOk result (AreResponsesOf setup.now self.new.responses) }
         ensures idle { OnOk result (AreIdleOutside self.new.busy self.new.testers.items) }
+        ensures err { OnErr result (self.new ≡ self.old) }
         ensures differences { self.new.differences ≡ self.old.differences }
     {
         let mut testers = Vec::new(alloc);
@@ -242,7 +243,7 @@ impl ExchangeLines {
     /// Takes a request with its reply; `ecu` is the ECU before it.
     ///
     /// # Errors
-    /// `AllocError` where memory is refused; of what was taken nothing is said then.
+    /// `AllocError` where memory is refused; what was taken before is as it was.
     pub fn enter(
         &mut self,
         ecu: &Ecu,
@@ -254,6 +255,8 @@ impl ExchangeLines {
             → ecu.now ≡ after (ecu_after setup lines) K
             → HasTaken self.old setup lines K
             → HasTaken self.new setup lines (K ++ asks who request.now (option_copied reply.entry) ∷ [])) }
+        ensures err { OnErr result ((setup : RawSetup) (lines : List (List ℕ)) (K : List Entry)
+            → HasTaken self.old setup lines K → HasTaken self.new setup lines K) }
         ensures many { length self.new.testers.items ≡ length self.old.testers.items }
         ensures idle { AreIdleOutside self.old.busy self.old.testers.items
             → AreIdleOutside self.new.busy self.new.testers.items }
@@ -321,7 +324,7 @@ impl ExchangeLines {
             &self.stamps,
             self.differences,
             &mut self.batch,
-            &mut self.second,
+            &mut self.last,
             text,
         )?;
         Ok(())

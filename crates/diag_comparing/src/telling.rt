@@ -7,9 +7,10 @@ ghost use Rattle.diag_setup.specs.Setup.{name_of};
 ghost use Rattle.diag_comparing.specs.Keeping.{judged_number, line_at, lines_at, written_at};
 
 use crate::stamps::Stamps;
+use diag_can::KeptStamp;
 use diag_judge::Judged;
 use diag_setup::{Setup, TesterId};
-use diag_told::{Second, capture_line, tell};
+use diag_told::{capture_line, tell};
 use std::alloc::AllocError;
 
 /// A tester's name; none where the setup has no such tester.
@@ -40,7 +41,7 @@ fn add_line(
     setup: &Setup,
     stamps: &Stamps,
     judged: &Judged,
-    second: &mut Second,
+    last: &mut KeptStamp,
     text: &mut Vec<u8>,
 ) -> Result<(), AllocError>
     ensures ok { OnOk result (text.new.items ≡ text.old.items ++ line_at setup.now stamps.now judged.now) }
@@ -50,7 +51,7 @@ fn add_line(
     let moment = stamps.moment(at.number, at.moment)?;
     tell(
         text,
-        second,
+        last,
         name_of(setup, judged.who),
         moment,
         &judged.over,
@@ -64,7 +65,7 @@ fn write_one(
     stamps: &Stamps,
     differences: bool,
     judged: &Judged,
-    second: &mut Second,
+    last: &mut KeptStamp,
     text: &mut Vec<u8>,
 ) -> Result<(), AllocError>
     ensures ok { OnOk result (text.new.items
@@ -74,7 +75,7 @@ fn write_one(
     if differences && judged.agrees {
         return Ok(());
     }
-    add_line(setup, stamps, judged, second, text)
+    add_line(setup, stamps, judged, last, text)
 }
 
 /// Adds the lines of exchanges, as they stand; where memory is refused, some of them.
@@ -84,7 +85,7 @@ fn write_each(
     stamps: &Stamps,
     differences: bool,
     batch: &[Judged],
-    second: &mut Second,
+    last: &mut KeptStamp,
     text: &mut Vec<u8>,
 ) -> Result<(), AllocError>
     ensures ok { OnOk result (text.new.items
@@ -92,13 +93,13 @@ fn write_each(
     ensures err { OnErr result (take (length text.old.items) text.new.items ≡ text.old.items) }
 {
     for judged in batch {
-        write_one(setup, stamps, differences, judged, second, text)?;
+        write_one(setup, stamps, differences, judged, last, text)?;
     }
     Ok(())
 }
 
-/// Adds the lines of exchanges, in the order of their lines; with `differences` those that agree are left out. The second of
-/// the last stamp is kept for the next.
+/// Adds the lines of exchanges, in the order of their lines; with `differences` those that agree are left out. The last
+/// stamp is kept for the next.
 ///
 /// # Errors
 /// `AllocError` where memory is refused; the text stays as it was.
@@ -107,7 +108,7 @@ pub(crate) fn write_batch(
     stamps: &Stamps,
     differences: bool,
     batch: &mut Vec<Judged>,
-    second: &mut Second,
+    last: &mut KeptStamp,
     text: &mut Vec<u8>,
 ) -> Result<(), AllocError>
     ensures ok { OnOk result (text.new.items
@@ -116,7 +117,7 @@ pub(crate) fn write_batch(
 {
     sort(batch)?;
     let before = text.len();
-    let written = write_each(setup, stamps, differences, batch.as_slice(), second, text);
+    let written = write_each(setup, stamps, differences, batch.as_slice(), last, text);
     if written.is_err() {
         text.truncate(before);
     }

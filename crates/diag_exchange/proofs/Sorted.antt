@@ -104,7 +104,7 @@ module _ (rs qs : List Record) where
       (λ some. eqb-true (times k rs) (times k qs) (member (λ r. as_often rs qs r ≡ true) k rs (list_each (as_often rs qs) rs both.0) some))
       (λ some. eqb-true (times k rs) (times k qs) (member (λ r. as_often rs qs r ≡ true) k qs (list_each (as_often rs qs) qs both.1) some))
 
-  often_all : ((k : Record) → times k rs ≡ times k qs) → same_records rs qs ≡ true
+  pub often_all : ((k : Record) → times k rs ≡ times k qs) → same_records rs qs ≡ true
   often_all f = all_of (as_often rs qs) (λ k. eq-eqb (times k rs) (times k qs) (f k)) (rs ++ qs)
 
 -- ---- as the code has them

@@ -64,6 +64,23 @@ answers_as expected sent None = is_none sent
 answers_as expected None (Some reply) = says_pending reply
 answers_as expected (Some sent) (Some reply) = not (says_pending reply) && same_reply expected sent.bytes reply
 
+-- the records of a message are looked at: it isn't the reply as it stands, and has its service, kind and mask
+abbrev pub orders_records : Expected → List ℕ → List ℕ → Bool
+orders_records expected sent reply = not (same_but (marks expected.varies) sent reply)
+    && expected.own && lists_records reply && bytes_eq (take 3 sent) (take 3 reply)
+
+abbrev pub answer_has_records : Expected → Option Heard → Option (List ℕ) → Bool
+answer_has_records expected sent None = false
+answer_has_records expected None (Some reply) = false
+answer_has_records expected (Some sent) (Some reply) =
+    not (says_pending reply) && orders_records expected sent.bytes reply
+
+-- the records of the unit's message and of the server's reply are put in order to compare them
+abbrev pub compares_records : Over → Bool
+compares_records (Exchange request pendings answer) =
+    not request.expected.ignored && answer_has_records request.expected answer request.expected.reply
+compares_records (Unasked heard) = false
+
 -- an exchange that is ignored never differs
 abbrev pub agrees : Over → Bool
 agrees (Exchange request pendings answer) =

@@ -1,5 +1,5 @@
 -- What it means that an exchange agrees.
-use Rattle.std.specs.Prelude.{◌≡◌, ◌<◌, ◌⊎◌, ℕ, true, false, List, length, take, drop, slice_index, Option, Some, None}
+use Rattle.std.specs.Prelude.{◌≡◌, ◌<◌, ◌⊎◌, ◌↔◌, ℕ, true, false, List, length, take, drop, slice_index, Option, Some, None}
 use Rattle.std.specs.List.Sorted.{IsPermutation}
 use Rattle.diag_exchange.specs.Agreeing.{agrees, lists_records, marks, records}
 use Rattle.diag_exchange.specs.Asking.{says_pending}
@@ -32,5 +32,6 @@ Means (Exchange request pendings answer) =
     (request.expected.ignored ≡ true) ⊎ IsAnswer request.expected answer request.expected.reply
 Means (Unasked heard) = ⊥
 
+-- an exchange agrees exactly where this holds
 abbrev pub AgreesLaw : Type 0
-AgreesLaw = (o : Over) → agrees o ≡ true → Means o
+AgreesLaw = (o : Over) → (agrees o ≡ true) ↔ Means o

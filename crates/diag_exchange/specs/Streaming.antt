@@ -94,6 +94,10 @@ request_in lent = record {
   expected = record { reply = option_copied lent.reply; varies = None; own = lent.own; ignored = false };
 }
 
+-- the same of another request
+abbrev pub with_request : AskedRequest → Open → Open
+with_request request e = record e { request = request }
+
 -- ---- one that is made for a request
 
 -- it is complete at this line, and ignored or not

@@ -1,7 +1,7 @@
 //! Whether what a unit sent is what the server replies.
 
-ghost use Rattle.std.specs.Prelude.{◌≡◌, ◌<◌, length, option_copied, slice_index, IfOk};
-ghost use Rattle.diag_exchange.specs.Agreeing.{agrees, answers_as, is_compared, marks, same_but, same_byte, same_reply, waited};
+ghost use Rattle.std.specs.Prelude.{◌≡◌, ◌<◌, length, option_copied, slice_index, true, IfOk, OnErr};
+ghost use Rattle.diag_exchange.specs.Agreeing.{agrees, answer_has_records, answers_as, compares_records, is_compared, marks, orders_records, same_but, same_byte, same_reply, waited};
 
 use crate::happening::{Expected, Heard, says_pending};
 use crate::over::{Over, OverKind};
@@ -55,7 +55,8 @@ impl Expected {
     /// Whether a message is the server's reply, but for bytes that vary and the order of records.
     #[inline(never)]
     fn is_same(&self, alloc: Global, sent: &[u8], reply: &[u8]) -> Result<bool, AllocError>
-        ensures { IfOk result (λ same. same ≡ same_reply self.now sent.now reply.now) }
+        ensures same { IfOk result (λ same. same ≡ same_reply self.now sent.now reply.now) }
+        ensures err { OnErr result (orders_records self.now sent.now reply.now ≡ true) }
     {
         if same_but(marks(self.varies.as_ref()), sent, reply) {
             return Ok(true);
@@ -68,8 +69,9 @@ impl Expected {
 
     /// Whether what the unit sent is what the server replies.
     fn is_answer(&self, alloc: Global, sent: Option<&Heard>) -> Result<bool, AllocError>
-        ensures { IfOk result (λ agrees. agrees
+        ensures agrees { IfOk result (λ agrees. agrees
             ≡ answers_as self.now (option_copied sent.entry) self.now.reply) }
+        ensures err { OnErr result (answer_has_records self.now (option_copied sent.entry) self.now.reply ≡ true) }
     {
         match (sent, &self.reply) {
             (None, None) => Ok(true),
@@ -90,9 +92,10 @@ impl Over {
     /// is ignored always agrees, and a message that no request asked never does.
     ///
     /// # Errors
-    /// `AllocError` where memory is refused.
+    /// `AllocError` where memory is refused, which is asked for only to compare records.
     pub fn agrees(&self, alloc: Global) -> Result<bool, AllocError>
-        ensures { IfOk result (λ same. same ≡ agrees self.now) }
+        ensures same { IfOk result (λ same. same ≡ agrees self.now) }
+        ensures err { OnErr result (compares_records self.now ≡ true) }
     {
         match self.kind() {
             OverKind::Exchange {

@@ -1,6 +1,6 @@
 //! The exchanges of a tester that aren't over.
 
-ghost use Rattle.std.specs.Prelude.{◌≡◌, ◌≤◌, ◌+◌, ◌++◌, ◌∷◌, [], true, false, drop, slice_get, IfSome, IfNone, IfOk, IsSome, if◌then◌else◌, map, Some, None, length, vec_len, vec_capacity, OnOk, OnErr};
+ghost use Rattle.std.specs.Prelude.{◌≡◌, ◌≤◌, ◌+◌, ◌++◌, ◌∷◌, [], true, false, drop, slice_get, IfSome, IfNone, IfOk, IsSome, if◌then◌else◌, map, Some, None, length, take, vec_len, vec_capacity, IsOk, OnOk, OnErr};
 ghost use Rattle.std.specs.List.{filter, list_any};
 ghost use Rattle.diag_exchange.specs.Over.{Unasked};
 ghost use Rattle.diag_exchange.specs.Taking.{Ended, IsUnchanged, Stands, Took, TookSilently};
@@ -171,7 +171,7 @@ impl Exchanges {
     /// The message that began is complete; what is over with it is put behind `over`.
     ///
     /// # Errors
-    /// `AllocError` where memory is refused, and then nothing has changed.
+    /// `AllocError` where memory is refused, or as `Open::take`, and then nothing has changed.
     #[inline(always)]
     pub fn come(&mut self, bytes: Message, over: &mut Vec<Over>) -> Result<(), AllocError>
         requires { IsSome self.old.coming }
@@ -216,9 +216,11 @@ impl Exchanges {
     /// Where all has happened, the exchanges that aren't over are put behind `over`, in memory of their own.
     ///
     /// # Errors
-    /// `AllocError` where memory is refused.
+    /// `AllocError` where memory is refused; then some of them may be there. Where all are over, none is asked for.
     pub fn left(&self, alloc: Global, over: &mut Vec<Over>) -> Result<(), AllocError>
-        ensures { OnOk result (Ended self.now over.old.items over.new.items) }
+        ensures ok { OnOk result (Ended self.now over.old.items over.new.items) }
+        ensures front { take (length over.old.items) over.new.items ≡ over.old.items }
+        ensures none { self.now.live.items ≡ [] → IsOk result }
     {
         for open in &self.live {
             over.push(Over::exchange(open.try_copy(alloc)?))?;

@@ -13,7 +13,8 @@ pub fn once_law()
     ensures { OnceLaw }
 {}
 
-/// An exchange that agrees is ignored, or has the server's reply: but for bytes that vary, and the order of records.
+/// An exchange agrees exactly where it is ignored, or has the server's reply: but for bytes that vary, and the order of
+/// records.
 pub fn agrees_law()
     ensures { AgreesLaw }
 {}

@@ -1,8 +1,8 @@
 //! An exchange that isn't over.
 
-ghost use Rattle.std.specs.Prelude.{◌≡◌, ◌+◌, ◌∷◌, [], option_copied, IfOk, OnOk, OnErr};
-ghost use Rattle.diag_exchange.specs.Asking.{begins_as, begins_as_reply, first_byte, fits, is_positive};
-ghost use Rattle.diag_exchange.specs.Streaming.{asked_again, completed, hearing, hears_no_more, is_candidate, is_done, marked, may_hear, opened, request_in, with_message};
+ghost use Rattle.std.specs.Prelude.{◌≡◌, ◌+◌, ◌∷◌, [], option_copied, true, ◌≤◌, ◌^◌, ◌↔◌, IfOk, IsErr, OnOk, OnErr};
+ghost use Rattle.diag_exchange.specs.Asking.{begins_as, begins_as_reply, first_byte, fits, is_pending, is_positive};
+ghost use Rattle.diag_exchange.specs.Streaming.{asked_again, completed, hearing, hears_no_more, is_candidate, is_done, marked, may_hear, opened, request_in, with_message, with_request};
 
 use crate::happening::{AskedRequest, CaptureLine, Heard, Start, TakenRequest};
 use diag_pdu::Message;
@@ -80,10 +80,11 @@ impl Open {
     /// Becomes a request that is lent, of which nothing was heard.
     ///
     /// # Errors
-    /// `AllocError` where memory is refused; of the exchange nothing is said then.
+    /// `AllocError` where memory is refused; then its request alone has changed.
     #[inline(always)]
     pub fn set(&mut self, lent: &TakenRequest<'_>) -> Result<(), AllocError>
-        ensures { OnOk result (self.new ≡ opened (request_in lent.now)) }
+        ensures ok { OnOk result (self.new ≡ opened (request_in lent.now)) }
+        ensures err { OnErr result (self.new ≡ with_request self.new.request self.old) }
     {
         self.request.set(lent)?;
         self.pendings = 0;
@@ -172,10 +173,11 @@ impl Open {
     /// The message that was coming in answers it.
     ///
     /// # Errors
-    /// `AllocError` where response pending came 2^64 - 1 times before, and then nothing has changed.
+    /// `AllocError` exactly where it says response pending, which came 2^64 - 1 times before, and then nothing has changed.
     #[inline(always)]
     pub fn take(&mut self, heard: Heard) -> Result<(), AllocError>
         ensures ok { OnOk result (self.new ≡ with_message heard self.old) }
+        ensures full { IsErr result ↔ ((is_pending heard ≡ true) × (2 ^ 64 ≤ self.old.pendings + 1)) }
         ensures err { OnErr result (self.new ≡ self.old) }
     {
         if heard.is_pending() {

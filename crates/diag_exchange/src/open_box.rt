@@ -1,7 +1,8 @@
 //! An exchange that isn't over, as it is kept.
 
-ghost use Rattle.std.specs.Prelude.{◌≡◌, IfOk, OnOk, OnErr};
-ghost use Rattle.diag_exchange.specs.Streaming.{asked_again, completed, hearing, hears_no_more, marked, opened, request_in, with_message};
+ghost use Rattle.std.specs.Prelude.{◌≡◌, ◌≤◌, ◌+◌, ◌^◌, ◌↔◌, true, IfOk, IsErr, OnOk, OnErr};
+ghost use Rattle.diag_exchange.specs.Asking.{is_pending};
+ghost use Rattle.diag_exchange.specs.Streaming.{asked_again, completed, hearing, hears_no_more, marked, opened, request_in, with_message, with_request};
 
 use crate::happening::{AskedRequest, CaptureLine, Heard, TakenRequest};
 use crate::open::Open;
@@ -44,7 +45,8 @@ impl OpenBox {
     /// As there.
     #[inline(always)]
     pub fn set(&mut self, lent: &TakenRequest<'_>) -> Result<(), AllocError>
-        ensures { OnOk result (self.new ≡ opened (request_in lent.now)) }
+        ensures ok { OnOk result (self.new ≡ opened (request_in lent.now)) }
+        ensures err { OnErr result (self.new ≡ with_request self.new.request self.old) }
     {
         self.open.set(lent)
     }
@@ -99,6 +101,7 @@ impl OpenBox {
     #[inline(always)]
     pub fn take(&mut self, heard: Heard) -> Result<(), AllocError>
         ensures ok { OnOk result (self.new ≡ with_message heard self.old) }
+        ensures full { IsErr result ↔ ((is_pending heard ≡ true) × (2 ^ 64 ≤ self.old.pendings + 1)) }
         ensures err { OnErr result (self.new ≡ self.old) }
     {
         self.open.take(heard)

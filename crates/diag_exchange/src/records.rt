@@ -1,6 +1,6 @@
 //! Records of DTCs, whose order isn't given.
 
-ghost use Rattle.std.specs.Prelude.{◌≡◌, ◌≤◌, ◌<◌, ◌∷◌, length, map, take, drop, IfOk};
+ghost use Rattle.std.specs.Prelude.{◌≡◌, ◌≤◌, ◌<◌, ◌∷◌, ◌&&◌, true, bytes_eq, length, map, take, drop, IfOk, OnErr};
 ghost use Rattle.diag_exchange.specs.Agreeing.{lists_records, records, same_in_any_order, same_records};
 
 use std::alloc::{AllocError, Global};
@@ -63,13 +63,14 @@ fn parts(list: &[u8]) -> (&[u8], &[u8])
 /// Whether a message has the records of a list of DTCs, in whatever order.
 ///
 /// # Errors
-/// `AllocError` where memory is refused.
+/// `AllocError` where memory is refused, which is asked for only to compare records.
 pub(crate) fn same_in_any_order(
     alloc: Global,
     sent: &[u8],
     reply: &[u8],
 ) -> Result<bool, AllocError>
-    ensures { IfOk result (λ same. same ≡ same_in_any_order sent.now reply.now) }
+    ensures same { IfOk result (λ same. same ≡ same_in_any_order sent.now reply.now) }
+    ensures err { OnErr result ((lists_records reply.now && bytes_eq (take 3 sent.now) (take 3 reply.now)) ≡ true) }
 {
     let (sent_head, sent_records) = parts(sent);
     let (head, wanted_records) = parts(reply);

@@ -1,8 +1,9 @@
 //! A request as the server took it, and what is expected of the unit.
 
-ghost use Rattle.std.specs.Prelude.{◌≡◌, ◌≤◌, length, option_copied, IfOk};
+ghost use Rattle.std.specs.Prelude.{◌≡◌, ◌≤◌, length, option_copied, IfOk, IsSome, OnErr};
+ghost use Rattle.diag_expect.specs.Entered.{Model};
 ghost use Rattle.diag_exchange.specs.Streaming.{opened};
-ghost use Rattle.diag_expect.specs.Expecting.{asked_at, entered_of};
+ghost use Rattle.diag_expect.specs.Expecting.{asked_at, entered_of, expected_of};
 
 use crate::expecting::{is_ignored, own_marks, template_marks};
 use diag_ecu::Ecu;
@@ -60,7 +61,7 @@ impl Entered {
     /// The exchange of the request, complete at a line, with what is expected of the unit.
     ///
     /// # Errors
-    /// `AllocError` where memory is refused.
+    /// `AllocError` where memory is refused, which is asked for only where bytes of the services' own reply vary.
     #[inline(always)]
     pub fn into_exchange(
         self,
@@ -68,7 +69,8 @@ impl Entered {
         setup: &Setup,
         at: CaptureLine,
     ) -> Result<OpenBox, AllocError>
-        ensures { IfOk result (λ own. own ≡ opened (asked_at setup.now at self)) }
+        ensures own { IfOk result (λ own. own ≡ opened (asked_at setup.now at self)) }
+        ensures err { OnErr result ((self.source ≡ Model) × IsSome (expected_of setup.now self).varies) }
     {
         let mut own = self.kept;
         let ignored = is_ignored(setup, own.get().request.bytes.bytes());

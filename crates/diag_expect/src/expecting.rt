@@ -1,6 +1,6 @@
 //! Which bytes of a reply vary, and which requests are ignored.
 
-ghost use Rattle.std.specs.Prelude.{◌≡◌, ◌≤◌, ◌+◌, ◌*◌, ◌++◌, flat_map, length, map, option_map, replicate, slice_index, Some, IfOk, OnOk};
+ghost use Rattle.std.specs.Prelude.{◌≡◌, ◌≤◌, ◌+◌, ◌*◌, ◌++◌, flat_map, length, map, option_map, replicate, slice_index, Some, IfOk, IsSome, OnErr, OnOk};
 ghost use Rattle.std.specs.List.{list_any};
 ghost use Rattle.diag_ecu.specs.Respond.{ids_in};
 ghost use Rattle.diag_expect.specs.Expecting.{data_marks, did_of, is_ignored, is_mark, item_mark, marks_at, own_marks, record_marks, seed_marks, seed_varies, template_marks, varies_at};
@@ -59,6 +59,9 @@ pub(crate) fn template_marks(
 }
 
 /// The marks of the model's own reply.
+///
+/// # Errors
+/// `AllocError` where memory is refused, which is asked for only where there are marks.
 pub(crate) fn own_marks(
     alloc: Global,
     setup: &Setup,
@@ -68,7 +71,8 @@ pub(crate) fn own_marks(
     requires asked { 1 ≤ length p.now }
     requires some { 1 ≤ length reply.now }
     requires few { length reply.now ≤ 65535 }
-    ensures { IfOk result (λ marks. marks ≡ own_marks setup.now p.now reply.now) }
+    ensures marks { IfOk result (λ marks. marks ≡ own_marks setup.now p.now reply.now) }
+    ensures err { OnErr result (IsSome (own_marks setup.now p.now reply.now)) }
 {
     match reply {
         [0x62, ..] => data_marks(alloc, setup, p, reply),
@@ -87,7 +91,8 @@ fn data_marks(
     requires asked { 1 ≤ length p.now }
     requires some { 1 ≤ length reply.now }
     requires few { length reply.now ≤ 65535 }
-    ensures { IfOk result (λ marks. marks ≡ data_marks setup.now p.now reply.now) }
+    ensures marks { IfOk result (λ marks. marks ≡ data_marks setup.now p.now reply.now) }
+    ensures err { OnErr result (IsSome (data_marks setup.now p.now reply.now)) }
 {
     let ids = &p[1..];
     if !any_varies(setup, ids) {
@@ -167,7 +172,8 @@ fn add_many(marks: &mut Vec<u8>, count: usize, mark: u8) -> Result<(), AllocErro
 fn seed_marks(alloc: Global, setup: &Setup, reply: &[u8]) -> Result<Option<Message>, AllocError>
     requires some { 1 ≤ length reply.now }
     requires few { length reply.now ≤ 65535 }
-    ensures { IfOk result (λ marks. marks ≡ seed_marks setup.now reply.now) }
+    ensures marks { IfOk result (λ marks. marks ≡ seed_marks setup.now reply.now) }
+    ensures err { OnErr result (IsSome (seed_marks setup.now reply.now)) }
 {
     if !any_seed_varies(setup, reply) {
         return Ok(None);

@@ -86,6 +86,10 @@ JudgesLine setup at who old new judged judged' span frame = (E : List Event) (hs
     → Judges new ((E ++ waited span) ++ frame_events frame) (hs ++ line_happens setup old.listener.setup at E span old.entered.items frame)
     × (judged' ≡ judged ++ map (judged_for who) (over_after hs (line_happens setup old.listener.setup at E span old.entered.items frame)))
 
+-- no request was entered, and no message is coming in
+abbrev pub IsIdle : Tester → Type 0
+IsIdle own = (own.entered.items ≡ []) × (own.listener.exchanges.coming ≡ None)
+
 -- ---- the end
 
 -- the exchanges that weren't over were judged

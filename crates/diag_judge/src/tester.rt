@@ -1,11 +1,11 @@
 //! A tester of a recording.
 
-ghost use Rattle.std.specs.Prelude.{◌≡◌, ◌≤◌, ◌<◌, ◌+◌, true, false, None, [], ◌∷◌, ◌++◌, List, length, map, option_copied, OnOk, IfOk};
+ghost use Rattle.std.specs.Prelude.{◌≡◌, ◌≤◌, ◌<◌, ◌+◌, None, [], ◌∷◌, ◌++◌, List, length, map, take, option_copied, ◌↔◌, IsOk, IsTrue, OnErr, OnOk, IfOk};
 ghost use Rattle.diag_can.specs.Event.{Physical};
 ghost use Rattle.diag_exchange.specs.Agreeing.{agrees};
 ghost use Rattle.diag_exchange.specs.Over.{Over as AnOver};
 ghost use Rattle.diag_listen.specs.Listening.{Hears};
-ghost use Rattle.diag_judge.specs.Judging.{AreCounts, EndsCounted, EndsJudged, HearsLine, HearsRequests, Judges, JudgesLine, bytes_in, judged_for};
+ghost use Rattle.diag_judge.specs.Judging.{AreCounts, EndsCounted, EndsJudged, HearsLine, HearsRequests, IsIdle, Judges, JudgesLine, bytes_in, judged_for};
 
 use diag_can::{FrameText, LentBytes};
 use diag_exchange::{CaptureLine, Over};
@@ -145,10 +145,11 @@ impl Tester {
     /// Takes a request of the line that is under way.
     ///
     /// # Errors
-    /// `AllocError` where memory is refused.
+    /// `AllocError` where memory is refused; the requests are as they were.
     #[inline(always)]
     pub fn enter(&mut self, entered: Entered) -> Result<(), AllocError>
         ensures entered { OnOk result (self.new.entered.items ≡ self.old.entered.items ++ entered ∷ []) }
+        ensures err { OnErr result (self.new.entered.items ≡ self.old.entered.items) }
         ensures listener { self.new.listener ≡ self.old.listener }
         ensures counts { self.new.counts ≡ self.old.counts }
     {
@@ -158,10 +159,11 @@ impl Tester {
     }
 
     /// Takes the end of a line: so many milliseconds, the requests that were entered, and a frame of the unit, where the
-    /// line has one. What is over with it is put behind `judged`.
+    /// line has one. What is over with it is put behind `judged`. Where the tester is idle and there is no frame, nothing
+    /// changes.
     ///
     /// # Errors
-    /// `AllocError` where memory is refused; of what was taken nothing is said then.
+    /// `AllocError` where memory is refused; of what was taken nothing is said then, and some of what is over may be there.
     #[inline(always)]
     pub fn take_line(
         &mut self,
@@ -175,6 +177,9 @@ impl Tester {
         ensures judges { OnOk result (JudgesLine setup.now at who self.old self.new judged.old.items judged.new.items span
             (bytes_in (option_copied frame.entry))) }
         ensures entered { OnOk result (self.new.entered.items ≡ []) }
+        ensures idle { option_copied frame.entry ≡ None → IsIdle self.old
+            → IsOk result × (self.new ≡ self.old) × (judged.new ≡ judged.old) }
+        ensures front { take (length judged.old.items) judged.new.items ≡ judged.old.items }
         ensures link_setup { self.new.listener.setup ≡ self.old.listener.setup }
     {
         if frame.is_none() && self.is_idle() {
@@ -186,9 +191,7 @@ impl Tester {
     /// Whether time alone changes nothing: no request was entered, and no message is coming in.
     #[inline(always)]
     pub fn is_idle(&self) -> bool
-        ensures entered { result ≡ true → self.now.entered.items ≡ [] }
-        ensures coming { result ≡ true → self.now.listener.exchanges.coming ≡ None }
-        ensures busy { result ≡ false → (self.now.entered.items ≡ []) × (self.now.listener.exchanges.coming ≡ None) → ⊥ }
+        ensures { IsTrue result ↔ IsIdle self.now }
     {
         self.entered.is_empty() && self.listener.exchanges.coming.is_none()
     }
@@ -207,6 +210,7 @@ impl Tester {
         ensures judges { OnOk result (JudgesLine setup.now at who self.old self.new judged.old.items judged.new.items span
             (bytes_in (option_copied frame.entry))) }
         ensures entered { OnOk result (self.new.entered.items ≡ []) }
+        ensures front { take (length judged.old.items) judged.new.items ≡ judged.old.items }
         ensures link_setup { self.new.listener.setup ≡ self.old.listener.setup }
     {
         self.hear(setup, at, span, frame)?;
@@ -250,7 +254,7 @@ impl Tester {
     /// Where all was taken, what is counted of all exchanges; those that aren't over are put behind `judged`.
     ///
     /// # Errors
-    /// `AllocError` where memory is refused.
+    /// `AllocError` where memory is refused; then some of them may be there.
     pub fn end(
         &self,
         alloc: Global,
@@ -259,6 +263,7 @@ impl Tester {
     ) -> Result<Counts, AllocError>
         ensures judged { OnOk result (EndsJudged self.now who judged.old.items judged.new.items) }
         ensures counts { IfOk result (EndsCounted self.now) }
+        ensures front { take (length judged.old.items) judged.new.items ≡ judged.old.items }
     {
         let mut over = Vec::new(alloc);
         self.listener.left(alloc, &mut over)?;
@@ -290,6 +295,7 @@ impl Counts {
     ) -> Result<(), AllocError>
         ensures judged { OnOk result
             (judged.new.items ≡ judged.old.items ++ map (judged_for who) over.old.items) }
+        ensures front { take (length judged.old.items) judged.new.items ≡ judged.old.items }
         ensures counts { OnOk result ((before : List AnOver) → AreCounts self.old before
             → AreCounts self.new (before ++ over.old.items)) }
     {

@@ -7,14 +7,14 @@ use Rattle.std.specs.Prelude.{◌++◌, map, option_copied, slice_get, slice_set
 use Rattle.diag_setup.specs.Setup.{ids_of}
 use Rattle.diag_bus.specs.Events.{frame_said}
 use Rattle.diag_bus.specs.RequestIds.{IsWithin}
-use Rattle.diag_judge.specs.Judging.{JudgesLine, bytes_in}
+use Rattle.diag_judge.specs.Judging.{IsIdle, JudgesLine, bytes_in}
 use Rattle.diag_judge.specs.declared.tester.Tester.{Tester}
 use Rattle.diag_pdu.specs.Cut.{counted_from}
 use Rattle.diag_compare.specs.Compare.{over_by}
 use Rattle.diag_compare.specs.Expects.{expects}
 use Rattle.diag_comparing.specs.Keeping.{bytes_with, judged_pair}
 use Rattle.diag_exchange.specs.Over.{Over}
-use Rattle.diag_comparing.specs.Idle.{IsIdle, IsOutside}
+use Rattle.diag_comparing.specs.Idle.{IsOutside}
 use Rattle.diag_comparing.proofs.Idle.{idle_set, left_one, over_first, over_last, read_set, taken_first, taken_last}
 use Rattle.diag_comparing.proofs.Takings.{taken_one, tester_is, judged_is, judged_more}
 use Rattle.diag_comparing.proofs.exchange_lines.take_each.Goals as goal

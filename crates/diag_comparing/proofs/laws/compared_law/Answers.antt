@@ -1,11 +1,12 @@
-use Rattle.std.proofs.Common.{refl, sym}
+use Rattle.std.proofs.Common.{ℕ, refl, subst, sym}
 use Rattle.diag_compare.specs.Expects.{expects}
-use Rattle.diag_compare.proofs.Statuses.{all_agreed}
+use Rattle.diag_compare.specs.Meaning.{StatusMeans}
+use Rattle.diag_compare.proofs.Statuses.{status_means}
 use Rattle.diag_comparing.proofs.laws.compared_law.Goals as goal
 
 pub returns : goal.returns
 returns c = λ differences setup lines. record {
   text = refl;
   ended = refl;
-  agree = λ e. all_agreed (expects setup) setup lines (sym e);
+  means = λ n is. subst (λ (status : ℕ). StatusMeans (expects setup) setup lines status) (sym is) (status_means (expects setup) setup lines);
 }

@@ -1,5 +1,5 @@
-use Rattle.diag_exchange.proofs.Meanings.{means}
+use Rattle.diag_exchange.proofs.Meanings.{meant, means}
 use Rattle.diag_exchange.proofs.laws.agrees_law.Goals as goal
 
 pub returns : goal.returns
-returns c = means
+returns c = λ o. (means o, meant o)

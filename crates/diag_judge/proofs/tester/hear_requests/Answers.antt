@@ -34,7 +34,7 @@ loop-turn-preserved c =
           (sym next.1 ∙ ap (λ k. take k old) count)
           (request_heard
           c.args.setup.now c.args.at c.loop-turn.listener c.ask.new.self c.args.over.now.items c.loop-turn.over.items c.ask.new.over.items (take n old) one
-          c.in_ok-asked.asked.request E hs (ap (λ (e : Open). e.request) c.in_ok-asked.ensures) c.in_ok-ask.ensures.heard (inv.heard E hs l));
+          c.in_ok-asked.asked.request E hs (ap (λ (e : Open). e.request) c.in_ok-asked.ensures.own) c.in_ok-ask.ensures.heard (inv.heard E hs l));
       link_setup = c.ask.ensures.setup ∙ inv.link_setup;
     }
 

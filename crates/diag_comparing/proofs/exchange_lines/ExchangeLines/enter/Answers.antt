@@ -1,12 +1,12 @@
 use Rattle.std.proofs.Common.{◌≡◌, ◌<◌, ◌+◌, ◌++◌, ◌∷◌, [], Some, length, refl, ap, subst, sym, ◌∙◌, arith}
 use Rattle.std.proofs.Math.ListN.{length-set}
 use Rattle.std.proofs.lemmas.Option.{slice_get_read}
-use Rattle.std.proofs.lemmas.Result.{on_ok_weaker}
+use Rattle.std.proofs.lemmas.Result.{on_err_weaker, on_ok_weaker}
 use Rattle.std.specs.Prelude.{option_copied, slice_get}
 use Rattle.diag_expect.specs.Entered.{Entered}
 use Rattle.diag_judge.specs.declared.tester.Tester.{Tester}
 use Rattle.diag_comparing.specs.Keeping.{IsTester}
-use Rattle.diag_comparing.proofs.Entering.{none_entered, one_entered, own_tester}
+use Rattle.diag_comparing.proofs.Entering.{none_entered, one_entered, one_same, own_tester, same_tester}
 use Rattle.diag_comparing.proofs.Idle.{idle_wider}
 use Rattle.diag_comparing.proofs.exchange_lines.ExchangeLines.enter.Goals as goal
 
@@ -46,3 +46,19 @@ pub returns-clause-idle : goal.returns-clause-idle
 returns-clause-idle c = λ idle.
     idle_wider c.args.self.now.busy c.with-self.result c.args.self.now.testers.items c.index-index.result c.enter.new.self
     c.with-self.ensures.wider c.with-self.ensures.has idle
+
+pub returns-clause-err : goal.returns-clause-err
+returns-clause-err c =
+    let testers = c.args.self.now.testers.items in
+    let i = c.index-index.result in
+    let own : Tester = c.index_mut.result.now in
+    let within : i < length testers = omega arith in
+    let here : slice_get testers i ≡ Some own = slice_get_read testers (length testers) i own refl within c.index_mut.ensures.value in
+    let new : Tester = c.enter.new.self in
+    on_err_weaker c.enter.result (λ entered. λ setup lines K taken. record {
+      count = taken.count;
+      stamps = taken.stamps;
+      many = length-set testers i new ∙ taken.many;
+      each = one_same setup lines K testers i new taken.each
+          (same_tester setup lines K (i + 1) own new c.enter.ensures.listener c.enter.ensures.counts entered (taken.each i own here));
+    }) c.enter.ensures.err

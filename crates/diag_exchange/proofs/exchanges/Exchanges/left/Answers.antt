@@ -8,8 +8,8 @@ use Rattle.diag_exchange.specs.Streaming.{told}
 use Rattle.diag_exchange.proofs.Taking.{told_kept}
 use Rattle.diag_exchange.proofs.exchanges.Exchanges.left.Goals as goal
 
-pub returns : goal.returns
-returns c = λ hs s.
+pub returns-clause-ok : goal.returns-clause-ok
+returns-clause-ok c = λ hs s.
     let live = c.args.self.now.live.items in
     let same : c.deref-open-items.result.now ≡ live = c.deref-open-items.ensures.value in
     let long : length live ≤ c.loop-open.open-index = omega (arith, ap length same, c.loop-open-test.false) in

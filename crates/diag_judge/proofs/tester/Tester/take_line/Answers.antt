@@ -13,4 +13,4 @@ returns-then-is_idle-clause-judges c =
     subst
     (λ (frame : Option (List ℕ)). JudgesLine c.args.setup.now c.args.at c.args.who own own judged judged c.args.span frame)
     (sym is)
-    (idle_judged c.args.setup.now c.args.at c.args.who own judged c.args.span (c.is_idle.ensures.coming c.if-is_idle.true) (c.is_idle.ensures.entered c.if-is_idle.true))
+    (idle_judged c.args.setup.now c.args.at c.args.who own judged c.args.span (c.is_idle.ensures.0 c.if-is_idle.true).1 (c.is_idle.ensures.0 c.if-is_idle.true).0)
