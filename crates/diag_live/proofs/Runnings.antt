@@ -1,5 +1,5 @@
 -- A live run from its begin to its end.
-use Rattle.std.proofs.Common.{◌≡◌, ◌⊎◌, ℕ, ◌+◌, ◌-◌, ◌<◌, ◌≤◌, ◌^◌, min, max, Bool, true, false, List, [], ◌∷◌, ◌++◌, length, Option, None, Some, IfSome, Result, Err, inl, inr, refl, sym, ap, subst, ◌∙◌, append_assoc, arith}
+use Rattle.std.proofs.Common.{◌≡◌, ◌≢◌, ◌⊎◌, ℕ, ◌+◌, ◌-◌, ◌<◌, ◌≤◌, ◌^◌, min, max, Bool, true, false, List, [], ◌∷◌, ◌++◌, length, Option, None, Some, IfSome, IfErr, Result, Ok, Err, inl, inr, refl, sym, ap, subst, ◌∙◌, append_assoc, arith}
 use Rattle.std.proofs.lemmas.List.{append-nil}
 use Rattle.std.specs.Io.KnownBytes.{Appends, Consumes, IsAtEnd, Keeps}
 use Rattle.std.proofs.KnownBytes.{Keeps-refl, Appends-kept, Appends-nil, Appends-trans, Consumes-kept, Consumes-nil, Consumes-trans}
@@ -14,6 +14,8 @@ use Rattle.diag_text.specs.Bytes.{Sends}
 use Rattle.diag_text.specs.declared.fault.RunFault.{RunFault}
 use Rattle.diag_text.specs.declared.fault.RunFault.TheVariants as fault
 use Rattle.diag_bus.specs.Bus.{TookLines}
+use Rattle.diag_run.specs.Devices.{fault_in}
+use Rattle.diag_run.proofs.Devices.{some_same}
 use Rattle.diag_run.specs.Wanted.{any_lines}
 use Rattle.diag_world.specs.Block.{some_in_block}
 use Rattle.diag_world.specs.Server.{quiet_of}
@@ -374,6 +376,10 @@ turn_refused Does old i i' o r kept = inl (inl ([], Consumes-kept i i i' [] (Con
 pub err_same : {X : Type 0} (f g : RunFault) → ◌≡◌ {A = Result X RunFault} (Err f) (Err g) → f ≡ g
 err_same {X} f g same = cc
 
--- and so is one that is passed on
-pub fault_passed : {X Y : Type 0} (f g : RunFault) → ◌≡◌ {A = Result X RunFault} (Err f) (Err g) → ◌≡◌ {A = Result Y RunFault} (Err f) (Err g)
-fault_passed {X} {Y} f g same = ap (λ (e : RunFault). (let r : Result Y RunFault = Err e in r)) (err_same {X = X} f g same)
+-- it isn't the config that can't be read
+pub no_config : {X : Type 0} (setup : RawSetup) (i i' o o' r r' : Option (List ℕ)) (result : Result X RunFault) → IfErr result (Stopped setup i i' o o' r r')
+    → fault_in result ≢ Some (fault.Read 0)
+no_config setup i i' o o' r r' (Ok x) stopped is = cc
+no_config setup i i' o o' r r' (Err f) stopped is =
+    let at : Stopped setup i i' o o' r r' (fault.Read 0) = subst (Stopped setup i i' o o' r r') (some_same f (fault.Read 0) is) stopped in
+    let clash = at.stops.0 in omega (arith, clash)

@@ -1,4 +1,5 @@
 pub mod Bench
+pub mod Devices
 pub mod Hearing
 pub mod Live
 pub mod Pace

@@ -1,19 +1,20 @@
 //! A live run: the config, then the bus as it goes.
 
 ghost use Rattle.std.specs.Prelude.{◌≡◌, ◌≢◌, ◌⊎◌, ◌<◌, Err, IfOk, IfErr, OnOk};
-ghost use Rattle.diag_live.specs.Pace.{Did, GaveUp, KeepsPace};
+ghost use Rattle.diag_live.specs.Devices.{TellsBothWrites, TellsHearing};
+ghost use Rattle.diag_live.specs.Pace.{Did, KeepsPace};
 ghost use Rattle.diag_live.specs.Serving.{CannotHear, HaltsWith, Turned};
 ghost use Rattle.diag_live.specs.Stops.{Lived, LivedWith, Stopped, StoppedWith};
-ghost use Rattle.diag_run.specs.Run.{DoneOf, TellsOf};
+ghost use Rattle.diag_run.specs.Devices.{TellsConfig, fault_in};
+ghost use Rattle.diag_run.specs.Run.{DoneOf, EndsOf, TellsOf};
 
 use crate::bench::{Bench, Heard};
 use crate::serving::Serving;
 use diag_bus::{Bus, Replies};
 use diag_run::{Outcome, read_config};
 use diag_setup::Setup;
-use diag_text::{RunFault, Target};
+use diag_text::{RunFault, Source, Target};
 use std::alloc::Global;
-use std::io::{Read, Write};
 
 /// Serves a bus until the input ends. The time passes as the bench's clock tells it, also while nothing is heard.
 ///
@@ -26,7 +27,7 @@ use std::io::{Read, Write};
 /// # Errors
 /// `Capture` with the number of the first line of the input at fault, or of the line by which, or before which, a
 /// tester's clock would pass 2^63 ms; `Read(1)` where the bench can't hear further, and only there (or behind 2^64 - 1
-/// turns); `Memory`; and `Write` only where a write or a flush of the output or of the record failed, or took no byte.
+/// turns); `Memory`; and `Write` just where a write or a flush of the output or of the record failed, or took no byte.
 pub fn live<B: Bench, W: Target, R: Target>(
     alloc: Global,
     setup: Setup,
@@ -39,10 +40,8 @@ pub fn live<B: Bench, W: Target, R: Target>(
         (W.contents out.old) (W.contents out.new) (R.contents recorder.old) (R.contents recorder.new)) }
     ensures fault { IfErr result (Stopped setup (B.remaining bench.old) (B.remaining bench.new)
         (W.contents out.old) (W.contents out.new) (R.contents recorder.old) (R.contents recorder.new)) }
-    ensures unheard { result ≡ Err (RunFault.Read 1) → GaveUp B.story bench.old bench.new }
-    ensures write { result ≡ Err RunFault.Write → W.failed out.new ⊎ R.failed recorder.new }
-    ensures unfailed { result ≢ Err RunFault.Write
-        → (W.sound out.old → W.sound out.new) × (R.sound recorder.old → R.sound recorder.new) }
+    ensures unheard { TellsHearing B.story bench.old bench.new (fault_in result) }
+    ensures writes { TellsBothWrites W.failed W.sound R.failed R.sound out.old out.new recorder.old recorder.new (fault_in result) }
     ensures flushed { OnOk result (W.flushed out.new × R.flushed recorder.new) }
 {
     let bus = Bus::new(alloc, setup, Replies::new(alloc))?;
@@ -104,8 +103,9 @@ fn turn<B: Bench, W: Target, R: Target>(
 /// Reads a setup, and then serves a bus.
 ///
 /// # Errors
-/// The first fault of the config, before which nothing is heard or written; then those of `live`.
-fn run_live<C: Read, B: Bench, W: Target, R: Target>(
+/// The first fault of the config, before which nothing is heard or written, with `Read(0)` just where a read of it failed; then
+/// those of `live`.
+fn run_live<C: Source, B: Bench, W: Target, R: Target>(
     alloc: Global,
     config: &mut C,
     bench: &mut B,
@@ -119,9 +119,9 @@ fn run_live<C: Read, B: Bench, W: Target, R: Target>(
     ensures fault { IfErr result (StoppedWith B.remaining (C.remaining config.old) (C.remaining config.new)
         bench.old bench.new
         (W.contents out.old) (W.contents out.new) (R.contents recorder.old) (R.contents recorder.new)) }
-    ensures write { result ≡ Err RunFault.Write → W.failed out.new ⊎ R.failed recorder.new }
-    ensures unfailed { result ≢ Err RunFault.Write
-        → (W.sound out.old → W.sound out.new) × (R.sound recorder.old → R.sound recorder.new) }
+    ensures config { TellsConfig C.failed C.sound config.old config.new (fault_in result) }
+    ensures unheard { TellsHearing B.story bench.old bench.new (fault_in result) }
+    ensures writes { TellsBothWrites W.failed W.sound R.failed R.sound out.old out.new recorder.old recorder.new (fault_in result) }
     ensures flushed { OnOk result (W.flushed out.new × R.flushed recorder.new) }
 {
     match read_config(alloc, config) {
@@ -132,24 +132,27 @@ fn run_live<C: Read, B: Bench, W: Target, R: Target>(
 
 /// Reads a setup, serves a bus, and says how it ended: with the end of the input and status 0, or with the line and the
 /// status of the run's fault.
-pub fn run_live_and_tell<C: Read + Drop, B: Bench + Drop, W: Write, R: Write>(
+pub fn run_live_and_tell<C: Source, B: Bench, W: Target, R: Target>(
     alloc: Global,
-    mut config: C,
-    mut bench: B,
+    config: &mut C,
+    bench: &mut B,
     out: &mut W,
     recorder: &mut R,
 ) -> Outcome
     ensures status { DoneOf (λ status. status ≡ 0) result }
-    ensures done { DoneOf (λ _. (config' : C) × (bench' : B)
-        × LivedWith (λ setup. KeepsPace B.story setup bench bench')
-        (C.remaining config) (C.remaining config') (B.remaining bench) (B.remaining bench')
+    ensures done { DoneOf (λ _. LivedWith (λ setup. KeepsPace B.story setup bench.old bench.new)
+        (C.remaining config.old) (C.remaining config.new)
+        (B.remaining bench.old) (B.remaining bench.new)
         (W.contents out.old) (W.contents out.new) (R.contents recorder.old) (R.contents recorder.new)) result }
-    ensures fault { TellsOf (λ fault. (config' : C) × (bench' : B)
-        × StoppedWith B.remaining (C.remaining config) (C.remaining config') bench bench'
-        (W.contents out.old) (W.contents out.new)
-        (R.contents recorder.old) (R.contents recorder.new) fault) result }
+    ensures fault { TellsOf (StoppedWith B.remaining (C.remaining config.old) (C.remaining config.new)
+        bench.old bench.new
+        (W.contents out.old) (W.contents out.new) (R.contents recorder.old) (R.contents recorder.new)) result }
+    ensures devices { EndsOf (λ came. TellsConfig C.failed C.sound config.old config.new came
+        × TellsHearing B.story bench.old bench.new came
+        × TellsBothWrites W.failed W.sound R.failed R.sound out.old out.new recorder.old recorder.new came) result }
+    ensures flushed { DoneOf (λ _. W.flushed out.new × R.flushed recorder.new) result }
 {
-    match run_live(alloc, &mut config, &mut bench, out, recorder) {
+    match run_live(alloc, config, bench, out, recorder) {
         Ok(()) => Outcome::Done { status: 0 },
         Err(fault) => Outcome::of(alloc, &fault),
     }

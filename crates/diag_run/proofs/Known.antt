@@ -14,7 +14,9 @@ use Rattle.diag_text.specs.Taking.{LinesTaken}
 use Rattle.diag_text.specs.declared.taking.LineTaker.{LineTaker}
 use Rattle.diag_run.specs.declared.answer.Replaying.{Replaying}
 use Rattle.diag_run.specs.Files.{Refusal, AreKnown, AreTaken, EndsAt, Fails, FilesEnd, FilesRead, ReadEach, SaysSetup, config_of, file_long, files_from}
+use Rattle.diag_run.specs.Devices.{fault_in}
 use Rattle.diag_run.specs.Run.{Inputs, FilesGive, GivesRun, GivesText, IsReplayedTo, ReadToEnd, NamesAFile, ReadsConfigFirst, TextStops, WhereKnown, answered, inputs, joined, limit, read_of, wanted}
+use Rattle.diag_run.proofs.Devices.{some_same}
 use Rattle.diag_run.proofs.Inputs.{read_fails, read_whole}
 use Rattle.diag_run.proofs.Order.{AllLater-files, AllLater-front}
 use Rattle.diag_run.proofs.Reading.{AreKnown-length, ends_within, head_known, too_long, whole_known, with_front}
@@ -294,3 +296,12 @@ module _ {R : Type 0} (remaining : R → Option (List ℕ)) (job : Job) (config 
     reads = tt;
     stops = inr (read.0, read_to_end _ read.1 (λ said. GivesRun job said (Err fault)) (inr read.1.holds));
   }
+
+-- the config isn't one of the files
+pub files_no_config : {R : Type 0} (remaining : R → Option (List ℕ)) (job : Job) (setup : RawSetup) (old new : List R) (made : Result (Vec (Vec ℕ)) RunFault)
+    → FilesGive remaining job setup old new (answered made) → fault_in made ≢ Some (Read 0)
+files_no_config remaining job setup old new (Ok parts) gives is = cc
+files_no_config remaining job setup old new (Err fault) (inl ends) is =
+    let at = subst (FilesEnd remaining (limit job) old new) (some_same fault (Read 0) is) ends in
+    let number = at.number in omega (arith, number)
+files_no_config remaining job setup old new (Err fault) (inr read) is = absurd (read.0 0 (some_same fault (Read 0) is))

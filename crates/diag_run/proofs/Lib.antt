@@ -1,3 +1,4 @@
+pub mod Devices
 pub mod Endings
 pub mod Finishing
 pub mod Following

@@ -379,7 +379,8 @@ module _ {S A : Type 0} (g : Ghosts S) (took : S → RawSetup → List (List ℕ
           subst (λ (l : List (List ℕ)). first_fault capture.bus.setup l ≡ None) same s.took_lines.well,
           subst (λ (l : List (List ℕ)). EndsWith ((want_of capture.bus.sink).ends capture.bus.setup l) status) same here.0,
           here.1 ∙ ap (capture_text (want_of capture.bus.sink) capture.bus.setup) same,
-          subst (λ (l : List (List ℕ)). took new.bus.sink capture.bus.setup l []) same here.2,
+          here.2,
+          subst (TookLines took new.bus) same here.3,
         )
 
     pub halts_ended : (fault : CaptureFault) (sent : List ℕ) → HaltsEnded took want_of capture fault sent → HaltsAtEnd took want_of capture fault sent
@@ -413,8 +414,8 @@ module _ {S A : Type 0} (g : Ghosts S) (took : S → RawSetup → List (List ℕ
                 ∙ (ap (λ (o : Wanted). capture_text o mid.bus.setup lines) on.want
                 ∙ (ap (λ (u : RawSetup). capture_text (want_of old.bus.sink) u lines) on.setup
                 ∙ ap (capture_text (want_of old.bus.sink) old.bus.setup) same))),
-            subst (λ (l : List (List ℕ)). took new.bus.sink old.bus.setup l []) same
-                (subst (λ (u : RawSetup). took new.bus.sink u lines []) on.setup m.3),
+            m.3 ∙ on.setup,
+            subst (TookLines took new.bus) same m.4,
           )
 
       pub cut_begun : (fault : CaptureFault) (t : List ℕ) → HaltsAtEnd took want_of mid fault t → HaltsAtEnd took want_of old fault (s ++ t)
@@ -442,7 +443,8 @@ module _ {S A : Type 0} (g : Ghosts S) (took : S → RawSetup → List (List ℕ
     close_whole new text sent same is whole = λ seen wrote s. (
       subst (λ (r : Result End (List ℕ)). EndsWith r status) (sym (adds (ended_lines seen) s.took_lines)) refl,
       ap (λ (t : List ℕ). wrote ++ t) (whole ∙ is) ∙ whole_text seen wrote s,
-      subst (λ (b : BusState S). took b.sink capture.bus.setup (ended_lines seen) []) (sym same) s.took_lines.taken,
+      ap (λ (b : BusState S). b.setup) same,
+      subst (λ (b : BusState S). TookLines took b (ended_lines seen)) (sym same) s.took_lines,
     )
 
     pub close_front : (text sent : List ℕ) → text ≡ capture.text.items ++ more → IsFrontOf sent text → HaltsEnded took want_of capture Write sent

@@ -57,15 +57,16 @@ abbrev pub HaltsIn : {S : Type 0} → {g : Ghosts S} → (S → RawSetup → Lis
 HaltsIn took want_of capture fault bytes sent = (seen wrote : List ℕ) → Stands took want_of capture seen wrote
     → Halts (want_of capture.bus.sink) capture.bus.setup fault (seen ++ bytes) (wrote ++ sent)
 
--- all that was read is whole lines that were taken, and what they and the end write was written; the status is that of the end,
--- and the sink stands for the lines
+-- all that was read is whole lines that were taken, none of which is at fault, and what they and the end write was written; the
+-- status is that of the end, and the bus stands for the lines
 abbrev pub Closes : {S : Type 0} → {g : Ghosts S} → (S → RawSetup → List (List ℕ) → List Entry → Type 0) → (S → Wanted)
     → Capture S g → Capture S g → ℕ → List ℕ → Type 0
 Closes took want_of old new status sent = (seen wrote : List ℕ) → Stands took want_of old seen wrote
     → (first_fault old.bus.setup (bus_lines seen) ≡ None)
     × EndsWith ((want_of old.bus.sink).ends old.bus.setup (bus_lines seen)) status
     × (wrote ++ sent ≡ capture_text (want_of old.bus.sink) old.bus.setup (bus_lines seen))
-    × took new.bus.sink old.bus.setup (bus_lines seen) []
+    × (new.bus.setup ≡ old.bus.setup)
+    × TookLines took new.bus (bus_lines seen)
 
 -- the same of the lines that were ended, where no line is begun
 abbrev pub ClosesEnded : {S : Type 0} → {g : Ghosts S} → (S → RawSetup → List (List ℕ) → List Entry → Type 0) → (S → Wanted)
@@ -73,7 +74,8 @@ abbrev pub ClosesEnded : {S : Type 0} → {g : Ghosts S} → (S → RawSetup →
 ClosesEnded took want_of old new status sent = (seen wrote : List ℕ) → Stands took want_of old seen wrote
     → EndsWith ((want_of old.bus.sink).ends old.bus.setup (ended_lines seen)) status
     × (wrote ++ sent ≡ capture_text (want_of old.bus.sink) old.bus.setup (ended_lines seen))
-    × took new.bus.sink old.bus.setup (ended_lines seen) []
+    × (new.bus.setup ≡ old.bus.setup)
+    × TookLines took new.bus (ended_lines seen)
 
 -- why not all of it was written
 abbrev pub HaltsEnded : {S : Type 0} → {g : Ghosts S} → (S → RawSetup → List (List ℕ) → List Entry → Type 0) → (S → Wanted)

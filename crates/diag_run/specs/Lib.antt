@@ -1,5 +1,6 @@
 pub mod Capture
 pub mod Capturing
+pub mod Devices
 pub mod Files
 pub mod Logs
 pub mod Playing

@@ -1,5 +1,5 @@
 -- What a run writes for its config and its files, or the fault that it answers.
-use Rattle.std.specs.Prelude.{◌≡◌, ◌≢◌, ◌≤◌, ◌<◌, ◌⊎◌, ℕ, Bool, if◌then◌else◌, List, [], ◌∷◌, length, map, Option, Some, Result, Ok, Err, IsOk, IsOkAnd, IfSome, IsSome, true}
+use Rattle.std.specs.Prelude.{◌≡◌, ◌≢◌, ◌≤◌, ◌<◌, ◌⊎◌, ℕ, Bool, if◌then◌else◌, List, [], ◌∷◌, length, map, Option, Some, None, Result, Ok, Err, IsOk, IsOkAnd, IfSome, IsSome, true}
 use Rattle.std.specs.Global.{Vec}
 use Rattle.std.specs.Io.KnownBytes.{Appends, IsAtEnd, Keeps}
 use Rattle.std.specs.List.{concat}
@@ -29,15 +29,8 @@ use Rattle.diag_text.specs.declared.fault.RunFault.{RunFault}
 use Rattle.diag_text.specs.declared.fault.RunFault.TheVariants.{Files, JournalLine, Memory, JournalFull, Read, Write, Differs}
 use Rattle.diag_run.specs.declared.file_run.Outcome.{Outcome}
 use Rattle.diag_run.specs.declared.file_run.Outcome.TheVariants as outcome
-use Rattle.diag_run.specs.declared.file_run.Alone.{Alone}
-use Rattle.diag_run.specs.declared.file_run.Alone.TheVariants as alone
 use Rattle.diag_run.specs.declared.file_run.Job.{Job}
 use Rattle.diag_run.specs.declared.file_run.Job.TheVariants.{Serial, Play, Replay}
-
--- what needs no thread of its own, as a job
-abbrev pub job_of : Alone → Job
-job_of (alone.Serial only_journal timing) = Serial only_journal timing
-job_of alone.Replay = Replay
 
 -- ---- what is read
 
@@ -292,3 +285,8 @@ Tells fault (outcome.Fault told number) =
 abbrev pub TellsOf : (RunFault → Type 0) → Outcome → Type 0
 TellsOf P (outcome.Done number) = Unit {0}
 TellsOf P (outcome.Fault told number) = (fault : RunFault) × P fault × Tells fault (outcome.Fault told number)
+
+-- it ended by this fault, or by none, and P holds of that
+abbrev pub EndsOf : (Option RunFault → Type 0) → Outcome → Type 0
+EndsOf P (outcome.Done number) = P None
+EndsOf P (outcome.Fault told number) = (fault : RunFault) × P (Some fault) × Tells fault (outcome.Fault told number)

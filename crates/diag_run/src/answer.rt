@@ -4,6 +4,7 @@ ghost use Rattle.std.specs.Prelude.{◌≡◌, ◌≢◌, ◌++◌, ℕ, List, l
 ghost use Rattle.diag_can.specs.BusLine.{HasNoFeed};
 ghost use Rattle.diag_desk.specs.Following.{HasTaken};
 ghost use Rattle.diag_workers.specs.Play.{logs_of};
+ghost use Rattle.diag_run.specs.Devices.{TellsReads, fault_in};
 ghost use Rattle.diag_run.specs.Files.{AreTaken, FilesEnd, FilesRead, or_bad_log};
 ghost use Rattle.diag_run.specs.Logs.{AreLogs, TookLog};
 ghost use Rattle.diag_run.specs.Run.{FilesGive, GivesPlayed, GivesWoven, GivesReplayed, IsReplayedTo, played_text, answered, joined};
@@ -16,12 +17,11 @@ use diag_can::Timing;
 use diag_desk::TextReplay;
 use diag_setup::Setup;
 use diag_text::{
-    LineTaker, RunFault, TakeLines, counted_text, journal_part, one_part, play_parts_beside,
+    LineTaker, RunFault, Source, TakeLines, counted_text, journal_part, one_part, play_parts_beside,
 };
 use diag_workers::{NoWatch, play};
 use diag_world::Played;
 use std::alloc::{AllocError, Global};
-use std::io::Read;
 use std::sync::Wait;
 use std::thread::Threads;
 
@@ -29,11 +29,15 @@ use std::thread::Threads;
 const JOURNAL_LIMIT: usize = 268_435_456;
 
 /// The bytes of each file.
-pub(crate) fn read_texts<R: Read>(alloc: Global, files: &mut [R]) -> Result<Vec<Vec<u8>>, RunFault>
+pub(crate) fn read_texts<R: Source>(
+    alloc: Global,
+    files: &mut [R],
+) -> Result<Vec<Vec<u8>>, RunFault>
     ensures read { IfOk result (λ texts. FilesRead R.remaining 67108864 files.old files.new
         (λ read. read ≡ map (λ text. text.items) texts.items)) }
     ensures count { IfOk result (λ texts. length texts.items ≡ length files.old) }
     ensures ends { IfErr result (FilesEnd R.remaining 67108864 files.old files.new) }
+    ensures tells { TellsReads R.failed R.sound files.old files.new (fault_in result) }
 {
     let mut texts = Vec::new(alloc);
     while texts.len() < files.len() {
@@ -44,7 +48,7 @@ pub(crate) fn read_texts<R: Read>(alloc: Global, files: &mut [R]) -> Result<Vec<
 }
 
 /// Plays the logs of these files on one thread, and says what the play writes. Each log is read as its lines come.
-pub(crate) fn played_text<R: Read>(
+pub(crate) fn played_text<R: Source>(
     alloc: Global,
     setup: &Setup,
     files: &mut [R],
@@ -52,8 +56,9 @@ pub(crate) fn played_text<R: Read>(
     timing: Timing,
 ) -> Result<Vec<Vec<u8>>, RunFault>
     requires { length files.old ≡ length setup.now.testers }
-    ensures { FilesGive R.remaining (Job.Serial only_journal timing) setup.now files.old files.new
+    ensures gives { FilesGive R.remaining (Job.Serial only_journal timing) setup.now files.old files.new
         (answered result) }
+    ensures tells { TellsReads R.failed R.sound files.old files.new (fault_in result) }
 {
     let takers = read_logs(alloc, setup, files, timing)?;
     told_play(alloc, setup, takers, only_journal, timing)
@@ -148,7 +153,7 @@ impl TakeLines for Replaying<'_> {
 }
 
 /// Has the journal of the one file replayed, up to a last line that no LF ends.
-fn read_journal<'a, R: Read>(
+fn read_journal<'a, R: Source>(
     alloc: Global,
     setup: &'a Setup,
     files: &mut [R],
@@ -157,6 +162,7 @@ fn read_journal<'a, R: Read>(
     ensures read { IfOk result (λ taker. FilesRead R.remaining 268435456 files.old files.new
         (IsReplayedTo setup.now taker.lines.replay taker.begun.items)) }
     ensures ends { IfErr result (FilesEnd R.remaining 268435456 files.old files.new) }
+    ensures tells { TellsReads R.failed R.sound files.old files.new (fault_in result) }
 {
     let replay = TextReplay::new(alloc, setup)?;
     let mut takers = Vec::new(alloc);
@@ -173,13 +179,14 @@ fn read_journal<'a, R: Read>(
 }
 
 /// Replays the journal of the one file as it is read, and says what the replay writes.
-pub(crate) fn replayed_text<R: Read>(
+pub(crate) fn replayed_text<R: Source>(
     alloc: Global,
     setup: &Setup,
     files: &mut [R],
 ) -> Result<Vec<Vec<u8>>, RunFault>
     requires { length files.old ≡ 1 }
-    ensures { FilesGive R.remaining Job.Replay setup.now files.old files.new (answered result) }
+    ensures gives { FilesGive R.remaining Job.Replay setup.now files.old files.new (answered result) }
+    ensures tells { TellsReads R.failed R.sound files.old files.new (fault_in result) }
 {
     let taker = read_journal(alloc, setup, files)?;
     told_replay(alloc, setup, taker.lines.replay, taker.begun.as_slice())

@@ -6,7 +6,8 @@ ghost use Rattle.diag_bus.specs.Bus.{TookLines};
 ghost use Rattle.diag_text.specs.Bytes.{Sends, Takes};
 ghost use Rattle.diag_run.specs.Capture.{Followed, Stops};
 ghost use Rattle.diag_run.specs.Capturing.{GoesOn, IsWritings, StopsWithin, fault_of, most_counted, FollowedFrom, StopsFrom};
-ghost use Rattle.diag_run.specs.Run.{DoneOf, TellsOf};
+ghost use Rattle.diag_run.specs.Devices.{TellsBusReads, TellsConfig, TellsWrites, fault_in};
+ghost use Rattle.diag_run.specs.Run.{DoneOf, EndsOf, TellsOf};
 ghost use Rattle.diag_run.specs.Wanted.{wanted};
 
 use crate::capture::{Capture, CaptureFault};
@@ -16,7 +17,6 @@ use crate::files::read_config;
 use diag_bus::Bus;
 use diag_text::{RunFault, Source, Target};
 use std::alloc::Global;
-use std::io::{Read, Write};
 
 /// The most bytes of a read.
 const PIECE: usize = 65_536;
@@ -33,7 +33,7 @@ const LINES_BEFORE_A_READ: u64 = u64::MAX - 65_537;
 /// that the unit answered otherwise. After a fault of the config nothing was written, nor before the `Otherwise` of a verdict.
 /// Before a fault of a line, and after a read that failed, what the lines before write was written; after `Memory` and `Write`
 /// a front of it. `Read(0)` is the config, `Read(1)` the capture: each just where a read of it failed, the latter also behind
-/// so many bytes that the lines of more can't be counted. `Write` only where a write or a flush failed.
+/// so many bytes that the lines of more can't be counted. `Write` just where a write or a flush failed.
 pub fn run_bus<S: Ending, R: Source, W: Target>(
     alloc: Global,
     sink: S,
@@ -46,13 +46,9 @@ pub fn run_bus<S: Ending, R: Source, W: Target>(
         (W.contents out.old) (W.contents out.new)) }
     ensures fault { IfErr result (Stops R.remaining (wanted S.written S.ends S.aim sink) config.old config.new
         capture.old capture.new (W.contents out.old) (W.contents out.new)) }
-    ensures config { result ≡ Err (RunFault.Read 0) → R.failed config.new }
-    ensures config_sound { result ≢ Err (RunFault.Read 0) → R.sound config.old → R.sound config.new }
-    ensures read { result ≡ Err (RunFault.Read 1) → R.failed capture.new
-        ⊎ Takes (R.remaining capture.old) (R.remaining capture.new) (λ bytes. most_counted < length bytes) }
-    ensures sound { result ≢ Err (RunFault.Read 1) → R.sound capture.old → R.sound capture.new }
-    ensures write { result ≡ Err RunFault.Write → W.failed out.new }
-    ensures unfailed { result ≢ Err RunFault.Write → W.sound out.old → W.sound out.new }
+    ensures tells_config { TellsConfig R.failed R.sound config.old config.new (fault_in result) }
+    ensures tells_reads { TellsBusReads R.remaining R.failed R.sound capture.old capture.new (fault_in result) }
+    ensures tells_writes { TellsWrites W.failed W.sound out.old out.new (fault_in result) }
     ensures flushed { IfOk result (λ _. W.flushed out.new) }
 {
     let setup = read_config(alloc, config)?;
@@ -196,21 +192,24 @@ fn read_piece<R: Source>(capture: &mut R, buffer: &mut [u8]) -> Result<usize, Ca
 
 /// Runs, and says how it ended: with the whole text written and the status of its end, or with the line and the status of
 /// the run's fault.
-pub fn run_bus_and_tell<S: Ending, R: Read + Drop, W: Write>(
+pub fn run_bus_and_tell<S: Ending, R: Source, W: Target>(
     alloc: Global,
     sink: S,
-    mut config: R,
-    mut capture: R,
+    config: &mut R,
+    capture: &mut R,
     out: &mut W,
 ) -> Outcome
-    ensures done { DoneOf (λ status. (config' : R) × (capture' : R)
-        × Followed (wanted S.written S.ends S.aim sink) (R.remaining config) (R.remaining config')
-        (R.remaining capture) (R.remaining capture') (W.contents out.old) (W.contents out.new) status) result }
-    ensures fault { TellsOf (λ fault. (config' : R) × (capture' : R)
-        × Stops R.remaining (wanted S.written S.ends S.aim sink) config config' capture capture'
-        (W.contents out.old) (W.contents out.new) fault) result }
+    ensures done { DoneOf (Followed (wanted S.written S.ends S.aim sink) (R.remaining config.old) (R.remaining config.new)
+        (R.remaining capture.old) (R.remaining capture.new)
+        (W.contents out.old) (W.contents out.new)) result }
+    ensures fault { TellsOf (Stops R.remaining (wanted S.written S.ends S.aim sink) config.old config.new
+        capture.old capture.new (W.contents out.old) (W.contents out.new)) result }
+    ensures devices { EndsOf (λ came. TellsConfig R.failed R.sound config.old config.new came
+        × TellsBusReads R.remaining R.failed R.sound capture.old capture.new came
+        × TellsWrites W.failed W.sound out.old out.new came) result }
+    ensures flushed { DoneOf (λ _. W.flushed out.new) result }
 {
-    match run_bus(alloc, sink, &mut config, &mut capture, out) {
+    match run_bus(alloc, sink, config, capture, out) {
         Ok(status) => Outcome::Done { status },
         Err(fault) => Outcome::of(alloc, &fault),
     }

@@ -3,6 +3,7 @@
 ghost use Rattle.std.specs.Prelude.{◌≡◌, ◌≢◌, ℕ, ◌<◌, ◌^◌, [], map, length, IfOk, IfErr, IfSome, OnOk};
 ghost use Rattle.std.specs.Io.KnownBytes.{IsAtEnd};
 ghost use Rattle.std.specs.List.{All};
+ghost use Rattle.diag_run.specs.Devices.{TellsConfig, TellsReads, fault_in};
 ghost use Rattle.diag_run.specs.Files.{AreTaken, ConfigEnds, FilesEnd, FilesRead, Gives, SaysSetup, config_of};
 
 use diag_config::{ConfigFault, read_setup};
@@ -29,8 +30,7 @@ pub fn read_config<R: Source>(alloc: Global, config: &mut R) -> Result<Setup, Ru
     ensures end { IfOk result (λ _. IsAtEnd (R.remaining config.new)) }
     ensures says { IfOk result (SaysSetup (R.remaining config.old) (R.remaining config.new)) }
     ensures ends { IfErr result (ConfigEnds (R.remaining config.old) (R.remaining config.new)) }
-    ensures failed { (n : ℕ) → result ≡ Err (RunFault.Read n) → R.failed config.new }
-    ensures sound { ((n : ℕ) → result ≢ Err (RunFault.Read n)) → R.sound config.old → R.sound config.new }
+    ensures tells { TellsConfig R.failed R.sound config.old config.new (fault_in result) }
 {
     let text = match read_whole(alloc, config, CONFIG_LIMIT) {
         Ok(text) => text,
@@ -63,7 +63,7 @@ pub(crate) fn read_each<R: Source, P: TakePieces>(
     ensures aims { OnOk result (map P.aim takers.new ≡ map P.aim takers.old) }
     ensures as_many { length takers.new ≡ length takers.old }
     ensures ends { IfErr result (FilesEnd R.remaining limit files.old files.new) }
-    ensures failed { (n : ℕ) → result ≡ Err (RunFault.Read n) → (file : R) × R.failed file }
+    ensures tells { TellsReads R.failed R.sound files.old files.new (fault_in result) }
     ensures memory { result ≡ Err RunFault.Memory → (taker : P) × P.refused taker }
 {
     for (index, file) in files.iter_mut().enumerate() {

@@ -17,6 +17,6 @@ mod serial;
 pub use bus_run::{run_bus, run_bus_and_tell, run_fault};
 pub use capture::{Capture, CaptureFault};
 pub use ending::Ending;
-pub use file_run::{Alone, Job, Outcome, run, run_alone, run_and_tell, run_text};
+pub use file_run::{Job, Outcome, run, run_and_tell, run_text};
 pub use files::read_config;
 pub use laws::judged_law;

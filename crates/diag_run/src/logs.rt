@@ -6,16 +6,16 @@ ghost use Rattle.diag_can.specs.Log.{events};
 ghost use Rattle.diag_can.specs.declared.log.Timing.{Timing as ATiming};
 ghost use Rattle.diag_setup.specs.declared.raw.RawSetup.{RawSetup};
 ghost use Rattle.diag_workers.specs.Play.{NotRead, ReadsOne, logs_of};
+ghost use Rattle.diag_run.specs.Devices.{TellsReads, fault_in};
 ghost use Rattle.diag_run.specs.Files.{AreTaken, FilesEnd, FilesRead};
 ghost use Rattle.diag_run.specs.Logs.{AreLogs, TookLog};
 
 use crate::files::{LOG_LIMIT, read_each};
 use diag_can::{Ids, Log, LogFault, LogReader, Timing};
 use diag_setup::{Setup, TesterId};
-use diag_text::{LineTaker, RunFault, TakeLines};
+use diag_text::{LineTaker, RunFault, Source, TakeLines};
 use diag_workers::PlayFault;
 use std::alloc::{AllocError, Global};
-use std::io::Read;
 
 /// A tester's log that is read as its lines come.
 #[derive(Drop)]
@@ -76,7 +76,7 @@ fn first_takers(
 }
 
 /// Has the log of each tester read, up to a last line that no LF ends.
-pub(crate) fn read_logs<R: Read>(
+pub(crate) fn read_logs<R: Source>(
     alloc: Global,
     setup: &Setup,
     files: &mut [R],
@@ -89,6 +89,7 @@ pub(crate) fn read_logs<R: Read>(
     ensures many { IfOk result (λ takers.
         length takers.items ≡ length setup.now.testers) }
     ensures ends { IfErr result (FilesEnd R.remaining 67108864 files.old files.new) }
+    ensures tells { TellsReads R.failed R.sound files.old files.new (fault_in result) }
 {
     let mut takers = first_takers(alloc, setup, timing)?;
     read_each(files, takers.as_mut_slice(), LOG_LIMIT)?;

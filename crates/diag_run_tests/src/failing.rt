@@ -67,8 +67,9 @@ fn outcome<T: Threads + Wait + Sync + AllocGlobal>(
     for (place, text) in given.files.iter().enumerate() {
         files.push(devices.reader(place.saturating_add(1), text))?;
     }
-    let config = devices.reader(0, CONFIG);
-    Ok(run_and_tell(rt, rt.alloc(), given.job, config, files, out))
+    let mut config = devices.reader(0, CONFIG);
+    let files = files.as_mut_slice();
+    Ok(run_and_tell(rt, rt.alloc(), given.job, &mut config, files, out))
 }
 
 /// Whether the run ends so.

@@ -14,16 +14,16 @@ use std::thread::Threads;
 
 /// A writer that takes all. Its flush at `fails_at`, from 1, fails.
 #[derive(Drop)]
-pub struct Flushed {
+struct Flushed {
     /// What it took.
-    pub taken: Vec<u8>,
+    taken: Vec<u8>,
     flushes: usize,
     fails_at: usize,
 }
 
 impl Flushed {
     /// A writer with room for a run's text.
-    pub fn failing(alloc: Global, fails_at: usize) -> Result<Flushed, AllocError> {
+    fn failing(alloc: Global, fails_at: usize) -> Result<Flushed, AllocError> {
         Ok(Flushed {
             taken: Vec::with_capacity(alloc, 4096)?,
             flushes: 0,
@@ -59,8 +59,15 @@ fn ends<T: Threads + Wait + Sync + AllocGlobal>(
         files.push(text.as_bytes())?;
     }
     let mut out = Flushed::failing(rt.alloc(), fails_at)?;
-    let config = CONFIG.as_bytes();
-    let outcome = run_and_tell(rt, rt.alloc(), given.job, config, files, &mut out);
+    let mut config = CONFIG.as_bytes();
+    let outcome = run_and_tell(
+        rt,
+        rt.alloc(),
+        given.job,
+        &mut config,
+        files.as_mut_slice(),
+        &mut out,
+    );
     Ok(is_end(&outcome, end)? && given.is_written(out.taken.as_slice(), given.len()))
 }
 
@@ -90,13 +97,10 @@ fn follows(
     text: [&str; 2],
 ) -> Result<bool, AllocError> {
     let mut out = Flushed::failing(alloc, fails_at)?;
-    let outcome = run_bus_and_tell(
-        alloc,
-        Replies::new(alloc),
-        CONFIG.as_bytes(),
-        CAPTURE,
-        &mut out,
-    );
+    let mut config = CONFIG.as_bytes();
+    let mut capture = CAPTURE;
+    let sink = Replies::new(alloc);
+    let outcome = run_bus_and_tell(alloc, sink, &mut config, &mut capture, &mut out);
     if out.taken.len() < text[0].len().saturating_add(text[1].len()) {
         return Err(AllocError);
     }

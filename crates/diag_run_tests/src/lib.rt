@@ -1,7 +1,7 @@
 //! Tests of what no run of the program shows: `run` of each job with each read and each write failing in turn, writers whose
-//! flush fails, faults that no file brings about, calls for who embeds the crates (a play that is kept, a bus that is given
-//! its lines, and runs that take no handles), a capture of more than two million lines, and live runs on a scripted bench
-//! with a clock of its own, with devices that fail and the record run again.
+//! flush fails, faults that no file brings about, calls for who embeds the crates (a play that is kept, and a bus that is
+//! given its lines), a capture of more than two million lines, and live runs on a scripted bench with a clock of its own, with
+//! devices that fail and the record run again.
 //! (The program makes a run's text and writes it by calls of its own: `test/devices.py` lets its reads and writes fail.)
 #![tactic(auto)]
 

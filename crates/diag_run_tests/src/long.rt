@@ -33,12 +33,13 @@ impl Read for EmptyLines<'_> {
 /// Whether a run over a capture of 31 pieces of 65,536 empty lines, with these bytes behind them, ends so.
 fn ends(alloc: Global, behind: &[u8], end: End<'_>) -> Result<bool, AllocError> {
     let mut out = Vec::new(alloc);
-    let config = EmptyLines {
+    let mut config = EmptyLines {
         pieces: 0,
         behind: CONFIG.as_bytes(),
     };
-    let capture = EmptyLines { pieces: 31, behind };
-    let outcome = run_bus_and_tell(alloc, Replies::new(alloc), config, capture, &mut out);
+    let mut capture = EmptyLines { pieces: 31, behind };
+    let sink = Replies::new(alloc);
+    let outcome = run_bus_and_tell(alloc, sink, &mut config, &mut capture, &mut out);
     is_end(&outcome, end)
 }
 

@@ -41,7 +41,7 @@ fn input_that_fails(rt: HostRuntime) -> Result<(), Trouble> {
 
 /// Whether a run whose output and record have so much room ends by `cannot write`, with a front of its text in each.
 fn is_cut(alloc: Global, room: usize, record_room: usize, full: Full) -> Result<bool, AllocError> {
-    let bench = Script {
+    let mut bench = Script {
         alloc,
         steps: &STEPS,
         clock: 700,
@@ -54,7 +54,8 @@ fn is_cut(alloc: Global, room: usize, record_room: usize, full: Full) -> Result<
         full,
         ..Pipe::of(alloc, record_room)?
     };
-    let outcome = run_live_and_tell(alloc, CONFIG.as_bytes(), bench, &mut out, &mut record);
+    let mut config = CONFIG.as_bytes();
+    let outcome = run_live_and_tell(alloc, &mut config, &mut bench, &mut out, &mut record);
     let ended = is_end(&outcome, CANNOT_WRITE);
     let fronts = TEXT.as_bytes().starts_with(out.taken.as_slice())
         && RECORD.as_bytes().starts_with(record.taken.as_slice());

@@ -76,14 +76,15 @@ pub fn serves(
     record: &str,
     text: &str,
 ) -> Result<bool, AllocError> {
-    let bench = Script {
+    let mut bench = Script {
         alloc,
         steps,
         clock: 700,
     };
     let mut out = Pipe::open(alloc)?;
     let mut noted = Pipe::open(alloc)?;
-    let outcome = run_live_and_tell(alloc, CONFIG.as_bytes(), bench, &mut out, &mut noted);
+    let mut config = CONFIG.as_bytes();
+    let outcome = run_live_and_tell(alloc, &mut config, &mut bench, &mut out, &mut noted);
     let ended = is_end(&outcome, end);
     let same = ended?
         && noted.taken.as_slice() == record.as_bytes()
@@ -94,12 +95,9 @@ pub fn serves(
 /// Whether the bus draws this text of a record.
 fn is_drawn(alloc: Global, record: &[u8], text: &str) -> Result<bool, AllocError> {
     let mut out = Pipe::open(alloc)?;
-    let outcome = run_bus_and_tell(
-        alloc,
-        Replies::new(alloc),
-        CONFIG.as_bytes(),
-        record,
-        &mut out,
-    );
+    let mut config = CONFIG.as_bytes();
+    let mut capture = record;
+    let sink = Replies::new(alloc);
+    let outcome = run_bus_and_tell(alloc, sink, &mut config, &mut capture, &mut out);
     Ok(is_end(&outcome, WELL)? && out.taken.as_slice() == text.as_bytes())
 }

@@ -1,9 +1,11 @@
-use Rattle.std.proofs.Common.{inl, inr, subst, arith, ◌∙◌}
+use Rattle.std.proofs.Common.{Err, Some, ap, inl, inr, subst, arith, ◌∙◌}
 use Rattle.std.proofs.KnownBytes.{Keeps-refl}
 use Rattle.std.proofs.lemmas.Result.{err_from_is_err_and}
+use Rattle.diag_text.specs.declared.fault.RunFault.TheVariants.{Read, Write}
+use Rattle.diag_run.proofs.Devices.{refused_is, some_same}
 use Rattle.diag_live.specs.Pace.{Did}
 use Rattle.diag_live.specs.Serving.{Turned}
-use Rattle.diag_live.proofs.Runnings.{begun, err_same, fault_passed, gives_up, halted, refused_first, times_asked-turn, turned_off, turned_on, unheard}
+use Rattle.diag_live.proofs.Runnings.{begun, err_same, gives_up, halted, refused_first, times_asked-turn, turned_off, turned_on, unheard}
 use Rattle.diag_live.proofs.running.live.Goals as goal
 
 pub returns-in_err-bus-clause-fault : goal.returns-in_err-bus-clause-fault
@@ -56,14 +58,41 @@ loop-turn_number-preserved g c =
 pub returns-in-Err-clause-unheard : goal.returns-in-Err-clause-unheard
 returns-in-Err-clause-unheard g c = λ same.
     gives_up g.B.Bench.story c.args.bench.now c.loop-turn_number.bench c.turn.new.bench c.args.setup c.loop-turn_number.serving _ _ _ _ _ _ _ _ _ c.loop-turn_number.invariant.so_far
-    c.in-Err.fault c.in-Err.ensures.err (err_same c.in-Err.fault _ same)
+    c.in-Err.fault c.in-Err.ensures.err (some_same c.in-Err.fault _ same)
 
-pub returns-in-Ok-false-clause-unfailed : goal.returns-in-Ok-false-clause-unfailed
-returns-in-Ok-false-clause-unfailed g c =
-    let was = c.loop-turn_number.invariant.unfailed in
-    let is = c.in-Ok-false.ensures.unfailed (λ same. cc) in λ other. (λ sound. is.0 (was.0 sound), λ sound. is.1 (was.1 sound))
+pub returns-in_err-bus-clause-writes : goal.returns-in_err-bus-clause-writes
+returns-in_err-bus-clause-writes g c =
+    let p = err_from_is_err_and c.from_residual.result c.from_residual.ensures.1 in
+    (λ is. absurd (refused_is c.from_residual.result p.0 Write p.1 p.2 (λ same. cc) is), λ other. (λ sound. sound, λ sound. sound))
 
-pub returns-in-Err-clause-unfailed : goal.returns-in-Err-clause-unfailed
-returns-in-Err-clause-unfailed g c =
+pub returns-in_err-serving-clause-writes : goal.returns-in_err-serving-clause-writes
+returns-in_err-serving-clause-writes g c =
+    let p = err_from_is_err_and c.from_residual-in_err-serving.result c.from_residual-in_err-serving.ensures.1 in
+    (λ is. absurd (refused_is c.from_residual-in_err-serving.result p.0 Write p.1 p.2 (λ same. cc) is), λ other. (λ sound. sound, λ sound. sound))
+
+pub returns-in_err-bus-clause-unheard : goal.returns-in_err-bus-clause-unheard
+returns-in_err-bus-clause-unheard g c =
+    let p = err_from_is_err_and c.from_residual.result c.from_residual.ensures.1 in
+    λ is. absurd (refused_is c.from_residual.result p.0 (Read 1) p.1 p.2 (λ same. cc) is)
+
+pub returns-in_err-serving-clause-unheard : goal.returns-in_err-serving-clause-unheard
+returns-in_err-serving-clause-unheard g c =
+    let p = err_from_is_err_and c.from_residual-in_err-serving.result c.from_residual-in_err-serving.ensures.1 in
+    λ is. absurd (refused_is c.from_residual-in_err-serving.result p.0 (Read 1) p.1 p.2 (λ same. cc) is)
+
+pub returns-in-Ok-false-clause-writes : goal.returns-in-Ok-false-clause-writes
+returns-in-Ok-false-clause-writes g c =
     let was = c.loop-turn_number.invariant.unfailed in
-    λ other. let is = c.in-Err.ensures.unfailed (λ same. other (fault_passed c.in-Err.fault _ same)) in (λ sound. is.0 (was.0 sound), λ sound. is.1 (was.1 sound))
+    let is = c.in-Ok-false.ensures.unfailed (λ same. cc) in
+    (λ same. cc, λ other. (λ sound. is.0 (was.0 sound), λ sound. is.1 (was.1 sound)))
+
+pub returns-in-Err-clause-writes : goal.returns-in-Err-clause-writes
+returns-in-Err-clause-writes g c =
+    let was = c.loop-turn_number.invariant.unfailed in (
+      λ same. c.in-Err.ensures.write (ap (λ f. Err f) (some_same c.in-Err.fault Write same)),
+      λ other. let is = c.in-Err.ensures.unfailed (λ same. other (ap (λ f. Some f) (err_same c.in-Err.fault Write same))) in
+          (λ sound. is.0 (was.0 sound), λ sound. is.1 (was.1 sound)),
+    )
+
+pub returns-clause-writes : goal.returns-clause-writes
+returns-clause-writes g c = (λ same. cc, λ other. c.loop-turn_number.invariant.unfailed)

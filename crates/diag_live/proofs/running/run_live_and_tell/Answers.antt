@@ -1,16 +1,27 @@
 use Rattle.std.proofs.Common.{◌≡◌}
-use Rattle.diag_run.proofs.Told.{not_done, tells_of}
+use Rattle.diag_run.specs.Devices.{TellsConfig}
+use Rattle.diag_live.specs.Devices.{TellsBothWrites, TellsHearing}
+use Rattle.diag_run.proofs.Told.{ends_of, not_done, tells_of}
 use Rattle.diag_live.proofs.running.run_live_and_tell.Goals as goal
 
-pub returns-in-Ok-clause-done : goal.returns-in-Ok-clause-done
-returns-in-Ok-clause-done g c = (c.run_live.new.config, c.run_live.new.bench, c.in-Ok.ensures.done)
+pub returns-in-Ok-clause-devices : goal.returns-in-Ok-clause-devices
+returns-in-Ok-clause-devices g c = (c.in-Ok.ensures.config, c.in-Ok.ensures.unheard, c.in-Ok.ensures.writes)
 
-pub returns-clause-done : goal.returns-clause-done
-returns-clause-done g c = not_done _ c.in-Err.fault c.of.result c.of.ensures
+pub returns-in-Err-clause-done : goal.returns-in-Err-clause-done
+returns-in-Err-clause-done g c = not_done _ c.in-Err.fault c.of.result c.of.ensures
 
-pub returns-clause-status : goal.returns-clause-status
-returns-clause-status g c = not_done (λ status. status ≡ 0) c.in-Err.fault c.of.result c.of.ensures
+pub returns-in-Err-clause-status : goal.returns-in-Err-clause-status
+returns-in-Err-clause-status g c = not_done (λ status. status ≡ 0) c.in-Err.fault c.of.result c.of.ensures
 
-pub returns-clause-fault : goal.returns-clause-fault
-returns-clause-fault g c =
-    tells_of _ c.in-Err.fault c.of.result (c.run_live.new.config, c.run_live.new.bench, c.in-Err.ensures.fault) c.of.ensures
+pub returns-in-Err-clause-fault : goal.returns-in-Err-clause-fault
+returns-in-Err-clause-fault g c = tells_of _ c.in-Err.fault c.of.result c.in-Err.ensures.fault c.of.ensures
+
+pub returns-in-Err-clause-devices : goal.returns-in-Err-clause-devices
+returns-in-Err-clause-devices g c =
+    ends_of (λ came. TellsConfig g.C.Source.failed g.C.Source.sound c.args.config.now c.run_live.new.config came
+    × TellsHearing g.B.Bench.story c.args.bench.now c.run_live.new.bench came
+    × TellsBothWrites g.W.Target.failed g.W.Target.sound g.R.Target.failed g.R.Target.sound c.args.out.now c.run_live.new.out c.args.recorder.now
+    c.run_live.new.recorder came) c.in-Err.fault c.of.result (c.in-Err.ensures.config, c.in-Err.ensures.unheard, c.in-Err.ensures.writes) c.of.ensures
+
+pub returns-in-Err-clause-flushed : goal.returns-in-Err-clause-flushed
+returns-in-Err-clause-flushed g c = not_done _ c.in-Err.fault c.of.result c.of.ensures

@@ -1,6 +1,8 @@
 use Rattle.diag_run.specs.Wanted.{wanted}
-use Rattle.diag_run.proofs.Pieces.{err_same, ok_is_no_fault, other_fault, same_fault, want_same}
-use Rattle.std.proofs.Common.{◌≡◌, arith, inl, inr, refl, sym, ◌∙◌}
+use Rattle.diag_run.specs.Devices.{fault_in}
+use Rattle.diag_run.proofs.Devices.{device_passed, refused_is, some_same, tells_other, told_as}
+use Rattle.diag_run.proofs.Pieces.{err_same, ok_is_no_fault, same_fault, want_same}
+use Rattle.std.proofs.Common.{◌≡◌, None, Some, arith, inl, inr, refl, sym, ◌∙◌}
 use Rattle.std.proofs.KnownBytes.{Keeps-refl}
 use Rattle.std.proofs.lemmas.Result.{err_from_is_err_and}
 use Rattle.diag_run.proofs.Following.{config_writes_not, followed, of_the_capture, read_is, refused_behind, stops_reading, write_is}
@@ -30,84 +32,75 @@ returns-in-Err-clause-fault g c =
     c.in-Err.fault c.in-Err.ensures.fault))
 
 -- the config is at fault
-pub returns-in_err-setup-clause-config : goal.returns-in_err-setup-clause-config
-returns-in_err-setup-clause-config g c =
+pub returns-in_err-setup-clause-tells_config : goal.returns-in_err-setup-clause-tells_config
+returns-in_err-setup-clause-tells_config g c =
     let p = err_from_is_err_and c.from_residual.result c.from_residual.ensures.1 in
-    λ is. c.read_config.ensures.failed 0 (same_fault c.read_config.result c.from_residual.result _ _ (run_fault.Read 0) c.in_err-setup.was p.1 (sym p.2) is)
+    device_passed g.R.Source.failed g.R.Source.sound (run_fault.Read 0) _ _ c.read_config.result c.from_residual.result _ _ c.in_err-setup.was p.1 p.2
+    c.read_config.ensures.tells
 
-pub returns-in_err-setup-clause-read : goal.returns-in_err-setup-clause-read
-returns-in_err-setup-clause-read g c =
+pub returns-in_err-setup-clause-tells_reads : goal.returns-in_err-setup-clause-tells_reads
+returns-in_err-setup-clause-tells_reads g c =
     let p = err_from_is_err_and c.from_residual.result c.from_residual.ensures.1 in
-    λ is. absurd (let clash : 1 ≡ 0 = c.read_config.ensures.device 1 (same_fault c.read_config.result c.from_residual.result _ _ (run_fault.Read 1) c.in_err-setup.was p.1 (sym p.2) is) in
-    omega (arith, clash))
+    told_as c.from_residual.result (run_fault.Read 1) _ _
+    (λ is. absurd (let clash : 1 ≡ 0 = c.read_config.ensures.device 1 (same_fault c.read_config.result c.from_residual.result _ _ (run_fault.Read 1) c.in_err-setup.was p.1 (sym p.2) is) in
+    omega (arith, clash)))
+    (λ other sound. sound)
 
-pub returns-in_err-setup-clause-write : goal.returns-in_err-setup-clause-write
-returns-in_err-setup-clause-write g c =
+pub returns-in_err-setup-clause-tells_writes : goal.returns-in_err-setup-clause-tells_writes
+returns-in_err-setup-clause-tells_writes g c =
     let p = err_from_is_err_and c.from_residual.result c.from_residual.ensures.1 in
-    λ is. absurd (config_writes_not _ _ c.in_err-setup.field-0.0 c.in_err-setup.ensures.ends (sym p.2 ∙ err_same p.0 run_fault.Write (sym p.1 ∙ is)))
+    told_as c.from_residual.result run_fault.Write _ _
+    (λ is. absurd (config_writes_not _ _ c.in_err-setup.field-0.0 c.in_err-setup.ensures.ends (sym p.2 ∙ err_same p.0 run_fault.Write (sym p.1 ∙ is))))
+    (λ other sound. sound)
 
 -- memory was refused behind it
-pub returns-in_err-bus-clause-config : goal.returns-in_err-bus-clause-config
-returns-in_err-bus-clause-config g c =
+pub returns-in_err-bus-clause-tells_config : goal.returns-in_err-bus-clause-tells_config
+returns-in_err-bus-clause-tells_config g c =
     let p = err_from_is_err_and c.from_residual-in_err-bus.result c.from_residual-in_err-bus.ensures.1 in
-    λ is. absurd (other_fault c.from_residual-in_err-bus.result p.0 run_fault.Memory (run_fault.Read 0) p.1 p.2 (λ same. cc) is)
+    tells_other g.R.Source.failed g.R.Source.sound (run_fault.Read 0) _ _ None (fault_in c.from_residual-in_err-bus.result) (λ is. cc)
+    (refused_is c.from_residual-in_err-bus.result p.0 (run_fault.Read 0) p.1 p.2 (λ is. cc)) c.in_ok-setup.ensures.tells
 
-pub returns-in_err-bus-clause-read : goal.returns-in_err-bus-clause-read
-returns-in_err-bus-clause-read g c =
-    let p = err_from_is_err_and c.from_residual-in_err-bus.result c.from_residual-in_err-bus.ensures.1 in
-    λ is. absurd (other_fault c.from_residual-in_err-bus.result p.0 run_fault.Memory (run_fault.Read 1) p.1 p.2 (λ same. cc) is)
+pub returns-in_err-bus-clause-tells_reads : goal.returns-in_err-bus-clause-tells_reads
+returns-in_err-bus-clause-tells_reads g c =
+    let p = err_from_is_err_and c.from_residual-in_err-bus.result c.from_residual-in_err-bus.ensures.1 in (
+      λ is. absurd (refused_is c.from_residual-in_err-bus.result p.0 (run_fault.Read 1) p.1 p.2 (λ same. cc) is),
+      λ other sound. sound,
+    )
 
-pub returns-in_err-bus-clause-write : goal.returns-in_err-bus-clause-write
-returns-in_err-bus-clause-write g c =
-    let p = err_from_is_err_and c.from_residual-in_err-bus.result c.from_residual-in_err-bus.ensures.1 in
-    λ is. absurd (other_fault c.from_residual-in_err-bus.result p.0 run_fault.Memory run_fault.Write p.1 p.2 (λ same. cc) is)
+pub returns-in_err-bus-clause-tells_writes : goal.returns-in_err-bus-clause-tells_writes
+returns-in_err-bus-clause-tells_writes g c =
+    let p = err_from_is_err_and c.from_residual-in_err-bus.result c.from_residual-in_err-bus.ensures.1 in (
+      λ is. absurd (refused_is c.from_residual-in_err-bus.result p.0 run_fault.Write p.1 p.2 (λ same. cc) is),
+      λ other sound. sound,
+    )
 
 -- the capture went by
-pub returns-in-Ok-clause-sound : goal.returns-in-Ok-clause-sound
-returns-in-Ok-clause-sound g c = λ other. c.run_capture.ensures.sound (ok_is_no_fault c.run_capture.result _ capture.Read c.in-Ok.is)
+pub returns-in-Ok-clause-tells_reads : goal.returns-in-Ok-clause-tells_reads
+returns-in-Ok-clause-tells_reads g c =
+    (λ is. cc, λ other. c.run_capture.ensures.sound (ok_is_no_fault c.run_capture.result _ capture.Read c.in-Ok.is))
 
-pub returns-in-Ok-clause-unfailed : goal.returns-in-Ok-clause-unfailed
-returns-in-Ok-clause-unfailed g c = λ other. c.run_capture.ensures.unfailed (ok_is_no_fault c.run_capture.result _ capture.Write c.in-Ok.is)
+pub returns-in-Ok-clause-tells_writes : goal.returns-in-Ok-clause-tells_writes
+returns-in-Ok-clause-tells_writes g c =
+    (λ is. cc, λ other. c.run_capture.ensures.unfailed (ok_is_no_fault c.run_capture.result _ capture.Write c.in-Ok.is))
 
 -- it is at fault
-pub returns-in-Err-clause-config : goal.returns-in-Err-clause-config
-returns-in-Err-clause-config g c = λ is.
-    absurd (of_the_capture c.in-Err.fault (sym c.run_fault.ensures ∙ err_same c.run_fault.result (run_fault.Read 0) is))
+pub returns-in-Err-clause-tells_config : goal.returns-in-Err-clause-tells_config
+returns-in-Err-clause-tells_config g c =
+    tells_other g.R.Source.failed g.R.Source.sound (run_fault.Read 0) _ _ None (Some c.run_fault.result) (λ is. cc)
+    (λ is. of_the_capture c.in-Err.fault (sym c.run_fault.ensures ∙ some_same c.run_fault.result (run_fault.Read 0) is)) c.in_ok-setup.ensures.tells
 
-pub returns-in-Err-clause-read : goal.returns-in-Err-clause-read
-returns-in-Err-clause-read g c = λ is.
-    let read = read_is c.in-Err.fault 1 (sym c.run_fault.ensures ∙ err_same c.run_fault.result (run_fault.Read 1) is) in
-    c.run_capture.ensures.read (rw (c.in-Err.is, read) refl)
+pub returns-in-Err-clause-tells_reads : goal.returns-in-Err-clause-tells_reads
+returns-in-Err-clause-tells_reads g c = (
+  λ is. let read = read_is c.in-Err.fault 1 (sym c.run_fault.ensures ∙ some_same c.run_fault.result (run_fault.Read 1) is) in
+      c.run_capture.ensures.read (rw (c.in-Err.is, read) refl),
+  λ other. c.run_capture.ensures.sound
+      (λ is. let same : c.in-Err.fault ≡ capture.Read = err_same c.in-Err.fault capture.Read (sym c.in-Err.is ∙ is) in other (rw (c.run_fault.ensures, same) refl)),
+)
 
-pub returns-in-Err-clause-sound : goal.returns-in-Err-clause-sound
-returns-in-Err-clause-sound g c = λ other. c.run_capture.ensures.sound
-    (λ is. let same : c.in-Err.fault ≡ capture.Read = err_same c.in-Err.fault capture.Read (sym c.in-Err.is ∙ is) in other (rw (c.run_fault.ensures, same) refl))
-
-pub returns-in-Err-clause-write : goal.returns-in-Err-clause-write
-returns-in-Err-clause-write g c = λ is.
-    let write = write_is c.in-Err.fault (sym c.run_fault.ensures ∙ err_same c.run_fault.result run_fault.Write is) in
-    c.run_capture.ensures.write (rw (c.in-Err.is, write) refl)
-
-pub returns-in-Err-clause-unfailed : goal.returns-in-Err-clause-unfailed
-returns-in-Err-clause-unfailed g c = λ other. c.run_capture.ensures.unfailed
-    (λ is. let same : c.in-Err.fault ≡ capture.Write = err_same c.in-Err.fault capture.Write (sym c.in-Err.is ∙ is) in other (rw (c.run_fault.ensures, same) refl))
-
--- a read of the config failed just where that is told
-pub returns-in_err-setup-clause-config_sound : goal.returns-in_err-setup-clause-config_sound
-returns-in_err-setup-clause-config_sound g c =
-    let p = err_from_is_err_and c.from_residual.result c.from_residual.ensures.1 in
-    λ other. c.read_config.ensures.sound (λ n is.
-    let told = same_fault c.from_residual.result c.read_config.result _ _ (run_fault.Read n) p.1 c.in_err-setup.was p.2 is in
-    other (rw (sym (c.read_config.ensures.device n is)) told))
-
-pub returns-in_err-bus-clause-config_sound : goal.returns-in_err-bus-clause-config_sound
-returns-in_err-bus-clause-config_sound g c = λ other. c.read_config.ensures.sound
-    (λ n. ok_is_no_fault c.read_config.result _ (run_fault.Read n) c.in_ok-setup.was)
-
-pub returns-in-Ok-clause-config_sound : goal.returns-in-Ok-clause-config_sound
-returns-in-Ok-clause-config_sound g c = λ other. c.read_config.ensures.sound
-    (λ n. ok_is_no_fault c.read_config.result _ (run_fault.Read n) c.in_ok-setup.was)
-
-pub returns-in-Err-clause-config_sound : goal.returns-in-Err-clause-config_sound
-returns-in-Err-clause-config_sound g c = λ other. c.read_config.ensures.sound
-    (λ n. ok_is_no_fault c.read_config.result _ (run_fault.Read n) c.in_ok-setup.was)
+pub returns-in-Err-clause-tells_writes : goal.returns-in-Err-clause-tells_writes
+returns-in-Err-clause-tells_writes g c = (
+  λ is. let write = write_is c.in-Err.fault (sym c.run_fault.ensures ∙ some_same c.run_fault.result run_fault.Write is) in
+      c.run_capture.ensures.write (rw (c.in-Err.is, write) refl),
+  λ other. c.run_capture.ensures.unfailed
+      (λ is. let same : c.in-Err.fault ≡ capture.Write = err_same c.in-Err.fault capture.Write (sym c.in-Err.is ∙ is) in other (rw (c.run_fault.ensures, same) refl)),
+)

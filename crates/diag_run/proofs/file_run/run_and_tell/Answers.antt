@@ -1,7 +1,8 @@
 use Rattle.std.proofs.Common.{◌≡◌, ap}
 use Rattle.std.specs.Prelude.{Err}
+use Rattle.diag_run.specs.Devices.{TellsConfig, TellsReads, TellsWrites}
 use Rattle.diag_run.proofs.Inputs.{is_fault_of}
-use Rattle.diag_run.proofs.Told.{not_done, tells_of}
+use Rattle.diag_run.proofs.Told.{ends_of, not_done, tells_of}
 use Rattle.diag_run.proofs.file_run.run_and_tell.Goals as goal
 
 pub returns-in-Err-clause-status : goal.returns-in-Err-clause-status
@@ -16,9 +17,20 @@ returns-in-Err-clause-reads g c = not_done _ c.in-Err.fault c.of.result c.of.ens
 pub returns-in-Err-clause-fault : goal.returns-in-Err-clause-fault
 returns-in-Err-clause-fault g c =
     let e = c.in-Err.ensures in
-    let old = g.W.Write.contents c.args.out.now in
-    let new = g.W.Write.contents c.run.new.out in
-    let stops = e.stops in
-    let is = is_fault_of g.R.Read.remaining c.args.job c.args.config c.args.files.items old new c.in-Err.fault e.nothing (λ n h. e.device n (ap Err h)) e.fault
+    let old = g.W.Target.contents c.args.out.now in
+    let new = g.W.Target.contents c.run.new.out in
+    let is = is_fault_of g.R.Source.remaining c.args.job c.args.config.now c.args.files.now old new c.in-Err.fault e.nothing (λ n h. e.device n (ap Err h)) e.fault
     (λ h. e.front (ap Err h)) in
-    tells_of _ c.in-Err.fault c.of.result (is, stops.0, stops.1, stops.2) c.of.ensures
+    tells_of _ c.in-Err.fault c.of.result (is, e.stops) c.of.ensures
+
+pub returns-in-Ok-clause-devices : goal.returns-in-Ok-clause-devices
+returns-in-Ok-clause-devices g c = (c.in-Ok.ensures.tells_config, c.in-Ok.ensures.tells_reads, c.in-Ok.ensures.tells_writes)
+
+pub returns-in-Err-clause-devices : goal.returns-in-Err-clause-devices
+returns-in-Err-clause-devices g c =
+    ends_of (λ came. TellsConfig g.R.Source.failed g.R.Source.sound c.args.config.now c.run.new.config came
+    × TellsReads g.R.Source.failed g.R.Source.sound c.args.files.now c.run.new.files came
+    × TellsWrites g.W.Target.failed g.W.Target.sound c.args.out.now c.run.new.out came) c.in-Err.fault c.of.result (c.in-Err.ensures.tells_config, c.in-Err.ensures.tells_reads, c.in-Err.ensures.tells_writes) c.of.ensures
+
+pub returns-in-Err-clause-flushed : goal.returns-in-Err-clause-flushed
+returns-in-Err-clause-flushed g c = not_done _ c.in-Err.fault c.of.result c.of.ensures

@@ -1,11 +1,29 @@
-use Rattle.std.proofs.Common.{inl}
-use Rattle.diag_run.proofs.Known.{files_made}
+use Rattle.std.proofs.Common.{None, inl, ap}
+use Rattle.std.specs.Prelude.{Err}
+use Rattle.diag_text.specs.declared.fault.RunFault.TheVariants.{Read}
+use Rattle.diag_run.specs.Devices.{fault_in}
+use Rattle.diag_run.proofs.Devices.{reads_untouched, tells_other}
+use Rattle.diag_run.proofs.Known.{files_made, files_no_config}
 use Rattle.diag_run.proofs.file_run.run_text.Goals as goal
 
 pub returns-in-Ok : goal.returns-in-Ok
 returns-in-Ok g c =
-    let made = files_made g.R.Read.remaining c.args.job _ _ _ _ c.in-Ok.setup c.in-Ok.ensures.says c.in-Ok.ensures.count c.text_of.result c.text_of.ensures in
-    record { answer = made.answer; device = made.device; config = made.config_first; reads = made.reads; stops = made.stops }
+    let gives = c.text_of.ensures.gives in
+    let made = files_made g.R.Source.remaining c.args.job _ _ _ _ c.in-Ok.setup c.in-Ok.ensures.says c.in-Ok.ensures.count c.text_of.result gives in
+    record {
+      answer = made.answer;
+      device = made.device;
+      config = made.config_first;
+      reads = made.reads;
+      stops = made.stops;
+      tells_config = tells_other g.R.Source.failed g.R.Source.sound (Read 0) _ _ None (fault_in c.text_of.result) (λ is. cc)
+          (files_no_config g.R.Source.remaining c.args.job c.in-Ok.setup _ _ c.text_of.result gives) c.in-Ok.ensures.tells;
+      tells_reads = c.text_of.ensures.tells;
+    }
 
 pub returns-in-Err-clause-stops : goal.returns-in-Err-clause-stops
 returns-in-Err-clause-stops g c = inl c.in-Err.ensures.stops
+
+pub returns-in-Err-clause-tells_reads : goal.returns-in-Err-clause-tells_reads
+returns-in-Err-clause-tells_reads g c =
+    reads_untouched g.R.Source.failed g.R.Source.sound c.args.files.now c.in-Err.fault (λ n is. c.in-Err.ensures.device n (ap Err is))

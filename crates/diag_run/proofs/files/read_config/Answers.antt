@@ -35,5 +35,5 @@ pub returns : goal.returns
 unfolding config_of
 returns g c = search rules
 
-pub returns-in-Err-Device-clause-sound : goal.returns-in-Err-Device-clause-sound
-returns-in-Err-Device-clause-sound g c = λ other. absurd (other 0 refl)
+pub returns-in-Err-Device-clause-tells : goal.returns-in-Err-Device-clause-tells
+returns-in-Err-Device-clause-tells g c = (λ is. c.in-Err-Device.ensures.failed (search rules), λ other. absurd (other refl))

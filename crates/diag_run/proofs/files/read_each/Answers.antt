@@ -1,8 +1,10 @@
-use Rattle.std.proofs.Common.{◌+◌, ◌<◌, ◌≤◌, ◌++◌, ◌∷◌, [], length, ◌∙◌, arith, rules}
+use Rattle.std.proofs.Common.{◌+◌, ◌<◌, ◌≤◌, ◌++◌, ◌∷◌, [], Some, length, refl, ◌∙◌, arith, rules}
 use Rattle.std.proofs.Math.Seq.{map-set_same}
 use Rattle.std.proofs.lemmas.List.Elements.{All-push}
 use Rattle.std.proofs.lemmas.List.{drop-set-lt, length-set, take_all}
 use Rattle.std.proofs.lemmas.Grind.{drop_more_same}
+use Rattle.diag_text.specs.declared.fault.RunFault.TheVariants.{FileLong, Memory, Read}
+use Rattle.diag_run.proofs.Devices.{one_read, read_at}
 use Rattle.diag_run.proofs.Reading.{all_within, ends_at, next_begun, one_read_more, one_taken_more, others_begun}
 use Rattle.diag_run.proofs.files.read_each.Goals as goal
 
@@ -30,6 +32,8 @@ loop-index-preserved g c =
       taken = one_taken_more g.P.TakePieces.took c.loop-index.takers index _ so_far.texts read.0 lt so_far.taken
           (read.2.1 [] (next_begun g.P.TakePieces.took c.loop-index.takers index _ lt so_far.begun));
       begun = others_begun g.P.TakePieces.took c.loop-index.takers index _ c.read_into.new.taker lt so_far.begun;
+      tells = one_read g.R.Source.failed g.R.Source.sound c.args.files.now c.loop-index.files index c.read_into.new.reader _ so_far.same so_far.rest
+          (omega (arith, so_far.same)) so_far.tells (λ is. cc, λ other. c.in-Ok.ensures.sound (λ is. cc));
       aims = map-set_same g.P.TakePieces.aim c.loop-index.takers index _ _ c.in-Ok.ensures.aim ∙ so_far.aims;
     }
 
@@ -66,8 +70,30 @@ returns-in-Err-Memory-clause-ends g c = (
       (c.in-Err-Memory.ensures.refused (search rules)),
 )
 
-pub returns-in-Err-Device-clause-failed : goal.returns-in-Err-Device-clause-failed
-returns-in-Err-Device-clause-failed g c = λ n is. (c.read_into.new.reader, c.in-Err-Device.ensures.failed (search rules))
+pub returns-clause-tells : goal.returns-clause-tells
+returns-clause-tells g c =
+    let so_far = c.loop-index.invariant in
+    let old = take_all c.loop-index.index c.args.files.now (omega (arith, so_far.same)) in
+    let new = take_all c.loop-index.index c.loop-index.files (omega arith) in
+    rw (old, new) at so_far.tells
+
+pub returns-in-Err-Long-clause-tells : goal.returns-in-Err-Long-clause-tells
+returns-in-Err-Long-clause-tells g c =
+    read_at g.R.Source.failed g.R.Source.sound c.args.files.now c.loop-index.files c.loop-index.index c.read_into.new.reader _ c.loop-index.invariant.same
+    c.loop-index.invariant.rest (omega (arith, c.loop-index.invariant.same)) c.loop-index.invariant.tells (Some (FileLong (c.loop-index.index + 1))) (λ m is. cc)
+    (λ is. cc, λ other. c.in-Err-Long.ensures.sound (λ is. cc))
+
+pub returns-in-Err-Device-clause-tells : goal.returns-in-Err-Device-clause-tells
+returns-in-Err-Device-clause-tells g c =
+    read_at g.R.Source.failed g.R.Source.sound c.args.files.now c.loop-index.files c.loop-index.index c.read_into.new.reader _ c.loop-index.invariant.same
+    c.loop-index.invariant.rest (omega (arith, c.loop-index.invariant.same)) c.loop-index.invariant.tells (Some (Read (c.loop-index.index + 1))) (λ m is. cc)
+    (λ is. c.in-Err-Device.ensures.failed (search rules), λ other. c.in-Err-Device.ensures.sound (λ _. other refl))
+
+pub returns-in-Err-Memory-clause-tells : goal.returns-in-Err-Memory-clause-tells
+returns-in-Err-Memory-clause-tells g c =
+    read_at g.R.Source.failed g.R.Source.sound c.args.files.now c.loop-index.files c.loop-index.index c.read_into.new.reader _ c.loop-index.invariant.same
+    c.loop-index.invariant.rest (omega (arith, c.loop-index.invariant.same)) c.loop-index.invariant.tells (Some (Memory)) (λ m is. cc)
+    (λ is. cc, λ other. c.in-Err-Memory.ensures.sound (λ is. cc))
 
 pub returns-in-Err-Memory-clause-memory : goal.returns-in-Err-Memory-clause-memory
 returns-in-Err-Memory-clause-memory g c = λ is. (c.read_into.new.taker, c.in-Err-Memory.ensures.memory (search rules))

@@ -1,5 +1,6 @@
-use Rattle.std.proofs.Common.{ℕ, List, [], ◌≡◌, ◌≤◌, length, map, take, drop}
+use Rattle.std.proofs.Common.{ℕ, List, [], None, ◌≡◌, ◌≤◌, length, map, take, drop}
 use Rattle.std.specs.List.{All}
+use Rattle.diag_run.specs.Devices.{TellsFrom}
 use Rattle.diag_run.specs.Files.{AreTaken, ReadEach}
 use Rattle.diag_run.proofs.files.read_each.Given as goal
 
@@ -14,5 +15,6 @@ invariant-loop-index g l = record {
   within : All (λ text. length text ≤ l.limit) texts;
   taken : AreTaken g.P.TakePieces.took (take l.index l.takers) texts;
   begun : All (λ taker. g.P.TakePieces.took taker []) (drop l.index l.takers);
+  tells : TellsFrom g.R.Source.failed g.R.Source.sound 1 (take l.index l.initial.files) (take l.index l.files) None;
   aims : map g.P.TakePieces.aim l.takers ≡ map g.P.TakePieces.aim l.initial.takers;
 }

@@ -8,4 +8,4 @@ returns-clause-plays c =
     plays_begin terms _ c.in_ok-server.ensures c.in_ok-journal.ensures.enters c.in_ok-lines.ensures.none c.in_ok-lines.ensures.many
 
 pub returns-clause-ready : goal.returns-clause-ready
-returns-clause-ready c = ready_begins c.args.setup.now _ c.in_ok-server.ensures c.in_ok-journal.ensures.none c.new-3.ensures
+returns-clause-ready c = ready_begins c.args.setup.now _ c.in_ok-server.ensures c.in_ok-journal.ensures.none c.new-3.ensures.items

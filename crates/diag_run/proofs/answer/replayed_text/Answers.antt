@@ -1,0 +1,11 @@
+use Rattle.std.proofs.lemmas.Result.{err_from_is_err_and}
+use Rattle.diag_run.proofs.Devices.{reads_passed, reads_then}
+use Rattle.diag_run.proofs.answer.replayed_text.Goals as goal
+
+pub returns-in_err-taker-clause-tells : goal.returns-in_err-taker-clause-tells
+returns-in_err-taker-clause-tells g c =
+    let p = err_from_is_err_and c.from_residual.result c.from_residual.ensures.1 in
+    reads_passed g.R.Source.failed g.R.Source.sound _ _ c.read_journal.result c.from_residual.result _ _ c.in_err-taker.was p.1 p.2 c.read_journal.ensures.tells
+
+pub returns-clause-tells : goal.returns-clause-tells
+returns-clause-tells g c = reads_then g.R.Source.failed g.R.Source.sound _ _ c.told_replay.result c.told_replay.ensures.device c.in_ok-taker.ensures.tells
