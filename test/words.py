@@ -1,8 +1,9 @@
 #!/usr/bin/env python3
 """Makes the man page and the completion for bash from what `uds_play --help` and `uds_play COMMAND --help` print, and
-compares them with man/uds_play.1 and completion/uds_play.bash; with --write it writes these. The page is read by man, where
-that is there, and the completion is tried in bash; the example of each command runs over demo/; a terminal shows how
-far a long run is; and notes tell what no run of runs/words/ shows.
+compares them with man/uds_play.1 and completion/uds_play.bash; with --write it writes these. The help of each command has
+each section, in lines of at most 80 columns. The page is read by man, where that is there, and the completion is tried in
+bash; the example of each command runs over demo/, and ends as its help says; a terminal shows how far a long run is; and
+notes tell what no run of runs/words/ shows.
 Usage: test/words.py [--write]
 The last line is 'N passed, M failed'."""
 import os
@@ -16,17 +17,8 @@ import tempfile
 from harness import PROGRAM, TOP, Tally
 
 PAGE, COMPLETION = "man/uds_play.1", "completion/uds_play.bash"
-STATUS = (
-    ("0", "the whole text was written"),
-    ("1", "words that the program doesn't take, or another number of files"),
-    ("2", "a fault of the setup"),
-    ("3", "a fault of a log, of a capture or of a journal"),
-    ("4", "memory was refused"),
-    ("5", "the journal is full"),
-    ("7", "a file can't be read, or the output can't be written"),
-    ("8", "the unit answered otherwise than the server, or an entry differs"),
-    ("9", "nothing was compared"),
-)
+# the sections of a command's help behind its usage, in their order
+SECTIONS = ("Arguments", "Options", "Reads", "Writes", "Status", "Example")
 # what a word of the command line may be completed to
 TRIED = (
     (["uds_play", "b"], ["bus"]),
@@ -60,16 +52,37 @@ def help_of(*words):
 
 
 def parts_of(text):
-    """The parts of a text of help: what it is about, its usage, its example, and the rows of each table."""
+    """The parts of a text of help: what it is about, its usage, its lines of text, and the rows of each table."""
     about, usage, *rest = text.rstrip("\n").split("\n\n")
-    parts = {"about": about, "usage": usage.removeprefix("Usage: "), "Example": [], "Commands": [], "Arguments": [], "Options": []}
+    parts = {"about": about.replace("\n", " "), "usage": usage.removeprefix("Usage: "), "Commands": [], **{head: [] for head in SECTIONS}}
     for part in rest:
-        head, _, rows = part.partition(":")
-        if head == "Example":
+        head, _, rows = part.partition(":\n")
+        if head in ("Reads", "Writes", "Example"):
             parts[head] = [row.strip() for row in rows.split("\n")]
-        else:
-            parts[head] = [tuple(re.split(r"\s{2,}", row.strip(), maxsplit=1)) for row in rows.strip("\n").split("\n")]
+        elif rows:
+            parts[head] = [tuple(re.split(r"\s{2,}", row.strip(), maxsplit=1)) for row in rows.split("\n")]
     return parts
+
+
+def example_of(parts):
+    """The commands of an example, and what stands behind them."""
+    lines = parts["Example"]
+    commands = [line for line in lines if line.startswith("uds_play ")]
+    return commands, " ".join(line for line in lines if line not in commands)
+
+
+def try_sections(texts, whole):
+    """Each help is narrow, has its sections in their order, and tells no status that the program's help doesn't."""
+    statuses = {number for number, _ in whole["Status"]}
+    for name, text in texts.items():
+        wide = [line for line in text.split("\n") if len(line) > 80]
+        told(not wide, f"columns of the help of {name}", wide)
+        if name == "uds_play":
+            continue
+        heads = tuple(re.findall(r"(?m)^([A-Z]\w+):$", text))
+        own = [number for number, _ in parts_of(text)["Status"]]
+        told(heads == SECTIONS, f"sections of the help of {name}", heads)
+        told(own == sorted(set(own) & statuses), f"statuses of the help of {name}", own)
 
 
 def flags_of(parts):
@@ -94,6 +107,14 @@ def sharers(commands):
     return {row: names for row, names in found.items() if len(names) > 1}
 
 
+def sections(parts):
+    """The lines of a command's sections in the man page."""
+    commands, end = example_of(parts)
+    lines = [line for head in ("Reads", "Writes") for line in (".PP", f"{head}:", *map(roff, parts[head]))]
+    lines += [".PP", "Status:", ".PP", ".nf", *(roff(f"{number}  {what}") for number, what in parts["Status"]), ".fi"]
+    return lines + [".PP", "Example:", ".PP", ".nf", *(f".B {roff(row)}" for row in commands), ".fi", ".PP", roff(end)]
+
+
 def page(whole, commands):
     """The man page. It tells a row that several commands have once; the usage of a command shows its arguments."""
     shared = sharers(commands)
@@ -105,8 +126,8 @@ def page(whole, commands):
     for name, parts in commands.items():
         lines += [f".SS {roff(name)}", f".B {roff(parts['usage'])}", ".PP", f"{roff(parts['about'])}."]
         lines += rows_of(row for row in parts["Arguments"] + parts["Options"] if row not in shared)
-        lines += [".PP", "Example:", ".PP", ".nf", *(f".B {roff(row)}" for row in parts["Example"]), ".fi"]
-    return "\n".join([*lines, ".SH EXIT STATUS", *rows_of(STATUS), ""])
+        lines += sections(parts)
+    return "\n".join([*lines, ".SH EXIT STATUS", *rows_of(whole["Status"]), ""])
 
 
 def values_of(commands):
@@ -181,14 +202,15 @@ def try_page():
 
 
 def try_examples(commands):
-    """The example of each command ends well, or as `verify` and `compare` do over a unit that answers otherwise."""
+    """The example of each command ends with the status that its help says, which is one of the command's."""
     with tempfile.TemporaryDirectory() as folder:
         os.symlink(f"{TOP}/demo", f"{folder}/demo")
         os.symlink(PROGRAM, f"{folder}/uds_play")
         for name, parts in commands.items():
-            lines = "\n".join(parts["Example"])
-            done = subprocess.run(["bash", "-ec", lines], cwd=folder, capture_output=True, text=True, timeout=60, env={**os.environ, "PATH": f"{folder}:{os.environ['PATH']}"})
-            told(parts["Example"] != [] and done.returncode == (8 if name in ("verify", "compare") else 0) and "note:" not in done.stderr, f"the example of {name}", done)
+            lines, end = example_of(parts)
+            done = subprocess.run(["bash", "-ec", "\n".join(lines)], cwd=folder, capture_output=True, text=True, timeout=60, env={**os.environ, "PATH": f"{folder}:{os.environ['PATH']}"})
+            is_told = end.startswith(f"It ends with {done.returncode}") and str(done.returncode) in dict(parts["Status"])
+            told(lines != [] and is_told and "note:" not in done.stderr, f"the example of {name}", done)
 
 
 def shown(words, is_written=False):
@@ -298,8 +320,11 @@ def try_journal():
 
 def main():
     told.needs_program()
-    whole = parts_of(help_of())
-    commands = {name: parts_of(help_of(name)) for name, _ in whole["Commands"]}
+    text = help_of()
+    whole = parts_of(text)
+    texts = {"uds_play": text, **{name: help_of(name) for name, _ in whole["Commands"]}}
+    commands = {name: parts_of(texts[name]) for name, _ in whole["Commands"]}
+    try_sections(texts, whole)
     for path, text in ((PAGE, page(whole, commands)), (COMPLETION, completion(whole, commands))):
         if "--write" in sys.argv[1:]:
             os.makedirs(os.path.dirname(f"{TOP}/{path}"), exist_ok=True)
@@ -312,7 +337,7 @@ def main():
             told(False, path, fault)
     try_page()
     try_completion()
-    try_examples(commands)
+    try_examples({"uds_play": whole, **commands})
     try_terminal()
     try_folder()
     try_unreadable()

@@ -77,20 +77,30 @@ impl Report {
     /// All of it, a line each.
     pub fn text(&self, alloc: Global) -> Result<Vec<u8>, AllocError> {
         let mut text = String::new(alloc);
-        for finding in &self.faults {
-            writeln!(text, "{finding}")?;
-        }
-        for remark in &self.passed {
-            writeln!(text, "{remark}")?;
-        }
-        for remark in &self.odd {
-            writeln!(text, "{remark}")?;
-        }
+        add_findings(&mut text, self.faults.as_slice())?;
+        add_remarks(&mut text, self.passed.as_slice())?;
+        add_remarks(&mut text, self.odd.as_slice())?;
         if text.is_empty() {
             text.push_str("nothing is wrong\n")?;
         }
         Ok(text.into_bytes())
     }
+}
+
+/// Adds a line for each fault.
+fn add_findings(text: &mut String, findings: &[Finding]) -> Result<(), AllocError> {
+    for finding in findings {
+        writeln!(text, "{finding}")?;
+    }
+    Ok(())
+}
+
+/// Adds a line for each remark.
+fn add_remarks(text: &mut String, remarks: &[Remark]) -> Result<(), AllocError> {
+    for remark in remarks {
+        writeln!(text, "{remark}")?;
+    }
+    Ok(())
 }
 
 /// All that can be told of a setup file's bytes. It has a fault exactly where `read_setup` has one, and the same first

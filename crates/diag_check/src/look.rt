@@ -100,6 +100,11 @@ impl<'a> Look<'a> {
                 self.key(tree, key, row)?;
             }
         }
+        self.names(tree, row)
+    }
+
+    /// Looks at the names of all that a table has.
+    fn names(&mut self, tree: &Tree, row: Row) -> Result<(), AllocError> {
         for (name, value) in tree.iter() {
             self.name(tree, name.as_str(), value, row)?;
         }

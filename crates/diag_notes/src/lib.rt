@@ -9,6 +9,8 @@ mod line;
 mod often;
 mod place;
 mod seen;
+mod stamps;
+mod twice;
 
 pub use journal::expected;
 pub use kind::{Instead, TOO_LONG, file_kind, instead_of_setup, is_recording, looks};

@@ -2,7 +2,9 @@
 
 use crate::line::ShownLine;
 use crate::often::Often;
-use memchr::{memchr, memchr_iter};
+use crate::stamps::{Stamps, parted};
+use crate::twice::{Frame, Twice};
+use memchr::memchr_iter;
 use std::alloc::{AllocError, Global};
 use std::str;
 
@@ -38,6 +40,7 @@ impl Side<'_> {
 /// A frame's line.
 #[derive(Drop)]
 struct Line<'a> {
+    stamp: &'a [u8],
     interface: &'a [u8],
     id: u32,
     is_extended: bool,
@@ -46,7 +49,18 @@ struct Line<'a> {
     rest: &'a [u8],
 }
 
-impl Line<'_> {
+impl<'a> Line<'a> {
+    /// What is told of it apart from what stands behind its bytes.
+    fn frame(&self) -> Frame<'a> {
+        Frame {
+            stamp: self.stamp,
+            interface: self.interface,
+            id: self.id,
+            is_extended: self.is_extended,
+            bytes: before_space(self.rest),
+        }
+    }
+
     /// The digits of its bytes, and what stands behind them; of CAN FD another `#` and the flags stand before them.
     fn digits(&self) -> &[u8] {
         match self.rest {
@@ -167,53 +181,6 @@ struct Interface<'a> {
     frames: u64,
 }
 
-/// Where stamps go back by a second or more.
-#[derive(Clone, Copy)]
-struct StepBack {
-    /// The line's number, from 1.
-    line: u64,
-    /// By how many microseconds.
-    by: u64,
-}
-
-/// What the stamps of a recording tell.
-#[derive(Clone, Copy)]
-struct Stamps {
-    /// How many lines were seen.
-    lines: u64,
-    /// The greatest stamp, in microseconds.
-    greatest: u64,
-    /// The first step back.
-    back: Option<StepBack>,
-}
-
-/// The fewest microseconds of a step back that are told: recorders put lines of one moment in any order.
-const LEAST_BACK: u64 = 1_000_000;
-
-impl Stamps {
-    const NONE: Stamps = Stamps {
-        lines: 0,
-        greatest: 0,
-        back: None,
-    };
-
-    /// One line more.
-    fn take(&mut self, line: &[u8]) {
-        self.lines = self.lines.saturating_add(1);
-        let Some(stamp) = stamp_of(line) else {
-            return;
-        };
-        let by = self.greatest.saturating_sub(stamp);
-        if by >= LEAST_BACK && self.back.is_none() {
-            self.back = Some(StepBack {
-                line: self.lines,
-                by,
-            });
-        }
-        self.greatest = self.greatest.max(stamp);
-    }
-}
-
 /// What was seen of a recording.
 #[derive(Drop)]
 pub struct Recording<'a> {
@@ -231,8 +198,10 @@ pub struct Recording<'a> {
     spaced: u64,
     interfaces: Vec<Interface<'a>>,
     choice: Choice<'a>,
+    /// Whether its testers' frames are there twice.
+    twice: Twice<'a>,
     /// What its stamps tell.
-    stamps: Stamps,
+    stamps: Stamps<'a>,
     /// Whether its run takes the time of the stamps.
     is_timed: bool,
 }
@@ -283,7 +252,8 @@ impl<'a> Recording<'a> {
             spaced: 0,
             interfaces: Vec::new(alloc),
             choice: Choice::None,
-            stamps: Stamps::NONE,
+            twice: Twice::new(),
+            stamps: Stamps::new(),
             is_timed: false,
         }
     }
@@ -335,7 +305,7 @@ impl<'a> Recording<'a> {
         Ok(())
     }
 
-    fn count_frame(&mut self, line: &Line<'_>) -> Result<(), AllocError> {
+    fn count_frame(&mut self, line: &Line<'a>) -> Result<(), AllocError> {
         let mut is_named = false;
         let mut is_heard = false;
         for (side, frames) in self.sides.iter_mut() {
@@ -353,6 +323,9 @@ impl<'a> Recording<'a> {
         }
         if is_named && !is_heard {
             self.pass(line);
+        }
+        if is_heard {
+            self.twice.take(line.frame());
         }
         if is_heard && line.is_spaced() {
             self.spaced = self.spaced.saturating_add(1);
@@ -422,24 +395,11 @@ impl<'a> Recording<'a> {
         }
         self.passed(&mut notes, part)?;
         self.names(&mut notes, part)?;
-        self.step_back(&mut notes)?;
-        Ok(notes)
-    }
-
-    /// That the stamps go back, where they tell the time.
-    fn step_back(&self, notes: &mut Vec<String>) -> Result<(), AllocError> {
-        let Some(back) = self.stamps.back else {
-            return Ok(());
-        };
+        self.doubled(&mut notes, part)?;
         if self.is_timed {
-            let line = back.line;
-            let seconds = back.by / 1_000_000;
-            let millis = back.by / 1_000 % 1_000;
-            notes.push(format!(in self.alloc;
-                "the stamps go back at line {line}, by {seconds}.{millis:03} s: no time passes until they are greater than before"
-            )?)?;
+            self.stamps.notes(self.alloc, &mut notes)?;
         }
-        Ok(())
+        Ok(notes)
     }
 
     /// What wasn't seen of a tester's own frames.
@@ -531,7 +491,11 @@ impl<'a> Recording<'a> {
         if self.interfaces.iter().filter(|it| it.frames > 0).count() < 2 {
             return Ok(());
         }
-        let told = "frames of more than one interface count";
+        let told = if self.twice.are_apart() {
+            "each frame is there twice, as of a bus that two interfaces record, and counts twice"
+        } else {
+            "frames of more than one interface count"
+        };
         let mut line = self.listed(String::from_str(self.alloc, told)?, part)?;
         match self.choice {
             Choice::Only(_) => return Ok(()),
@@ -539,6 +503,16 @@ impl<'a> Recording<'a> {
             Choice::All => self.name_flag(&mut line)?,
         }
         notes.push(line)?;
+        Ok(())
+    }
+
+    /// That each frame is there twice, in equal lines, where their stamps tell moments apart.
+    fn doubled(&self, notes: &mut Vec<String>, part: &str) -> Result<(), AllocError> {
+        if self.is_timed && self.stamps.tell_moments() && self.twice.are_equal() {
+            notes.push(format!(in self.alloc;
+                "each frame is there twice, in equal lines, and counts twice{part}: awk '!seen[$0]++' takes it once"
+            )?)?;
+        }
         Ok(())
     }
 
@@ -571,10 +545,11 @@ fn read_line(line: &[u8]) -> Option<Line<'_>> {
     let [b'(', stamp @ ..] = line else {
         return None;
     };
-    let (_, rest) = parted(stamp, b')')?;
+    let (stamp, rest) = parted(stamp, b')')?;
     let (interface, rest) = parted(behind_spaces(rest), b' ')?;
     let (id, rest) = parted(behind_spaces(rest), b'#')?;
     Some(Line {
+        stamp,
         interface,
         id: hex_number(id)?,
         is_extended: id.len() == 8,
@@ -583,38 +558,18 @@ fn read_line(line: &[u8]) -> Option<Line<'_>> {
     })
 }
 
-/// A line's stamp in microseconds.
-fn stamp_of(line: &[u8]) -> Option<u64> {
-    let [b'(', rest @ ..] = line else {
-        return None;
-    };
-    let (stamp, _) = parted(rest, b')')?;
-    let (seconds, fraction) = parted(stamp, b'.')?;
-    let micros = decimal_number(fraction.get(..6)?)?;
-    decimal_number(seconds)?
-        .checked_mul(1_000_000)?
-        .checked_add(micros)
-}
-
-/// What stands before the first such byte, and what behind it.
-fn parted(text: &[u8], mark: u8) -> Option<(&[u8], &[u8])> {
-    let at = memchr(mark, text)?;
-    Some((text.get(..at)?, text.get(at.saturating_add(1)..)?))
+/// What stands before the first space, or before CR.
+fn before_space(text: &[u8]) -> &[u8] {
+    let length = text
+        .iter()
+        .take_while(|c| **c != b' ' && **c != b'\r')
+        .count();
+    text.get(..length).unwrap_or(text)
 }
 
 fn behind_spaces(text: &[u8]) -> &[u8] {
     let spaces = text.iter().take_while(|c| **c == b' ').count();
     text.get(spaces..).unwrap_or(b"")
-}
-
-/// The number of decimal digits; none where there is another byte, or the number is too great.
-fn decimal_number(digits: &[u8]) -> Option<u64> {
-    let mut number: u64 = 0;
-    for c in digits {
-        let digit = char::from(*c).to_digit(10)?;
-        number = number.checked_mul(10)?.checked_add(u64::from(digit))?;
-    }
-    Some(number)
 }
 
 /// The number of hex digits of either case; none where there is no digit, or the number is too great.

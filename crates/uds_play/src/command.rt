@@ -3,6 +3,7 @@
 ghost use Rattle.std.specs.Prelude.{◌≡◌};
 ghost use Rattle.uds_play.specs.declared.command.Refusal.TheVariants.{Memory};
 
+use crate::help;
 use clap::error::ErrorKind;
 use clap::{Arg, ArgAction, ArgMatches, Command, Error};
 use diag_can::Timing;
@@ -120,28 +121,23 @@ fn quiet_flag<'a>(alloc: Global) -> Arg<'a> {
     flag(alloc, "quiet", "Leave out notes").global(true)
 }
 
-/// A command with a config, and an example of it over the files of demo/.
+/// A command with a config, and what is said of it behind its options.
 fn job_command<'a>(
     alloc: Global,
     name: &'a str,
     about: &'a str,
-    example: &'a str,
+    sections: &'a str,
 ) -> Result<Command<'a>, AllocError> {
     Command::new(alloc, name)
         .about(about)
-        .after_help(example)
+        .after_help(sections)
         .arg(config_arg(alloc))
 }
 
 /// The command that looks at a setup alone.
 fn check_command<'a>(alloc: Global) -> Result<Command<'a>, AllocError> {
     let about = "Tell all that is wrong with a setup, each with its place";
-    job_command(
-        alloc,
-        "check",
-        about,
-        "Example: uds_play check demo/setup.toml",
-    )
+    job_command(alloc, "check", about, help::CHECK)
 }
 
 /// A command that plays a log of each tester, with its flags.
@@ -149,11 +145,11 @@ fn play_command<'a>(
     alloc: Global,
     name: &'a str,
     about: &'a str,
-    example: &'a str,
+    sections: &'a str,
 ) -> Result<Command<'a>, AllocError> {
     let logs = "A log of each tester, in the order of the setup";
     let stamps = "Take the time from the stamps of the log lines";
-    job_command(alloc, name, about, example)?
+    job_command(alloc, name, about, sections)?
         .arg(files_arg(alloc, logs))?
         .arg(flag(alloc, "journal", "Print the journal alone"))?
         .arg(flag(alloc, "stamps", stamps))
@@ -161,16 +157,14 @@ fn play_command<'a>(
 
 /// The command that replays a journal.
 fn replay_command<'a>(alloc: Global) -> Result<Command<'a>, AllocError> {
-    let example =
-        "Example: uds_play bus --journal demo/setup.toml demo/bus.log > journal{n}         uds_play replay demo/setup.toml journal";
     let journal = files_arg(alloc, "The journal of a play").value_name("JOURNAL");
-    job_command(alloc, "replay", "Replay a journal", example)?.arg(journal)
+    job_command(alloc, "replay", "Replay a journal", help::REPLAY)?.arg(journal)
 }
 
 /// The capture behind the config, at most one.
 fn capture_arg<'a>(alloc: Global) -> Arg<'a> {
     Arg::new(alloc, "CAPTURE")
-        .help("The recording of the bus; standard input where it is - or left out")
+        .help("The recording of the bus; - or nothing is standard input")
         .action(ArgAction::Set)
 }
 
@@ -179,7 +173,7 @@ fn interface_arg<'a>(alloc: Global) -> Arg<'a> {
     Arg::new(alloc, "interface")
         .long("interface")
         .value_name("NAME")
-        .help("Take the frames of this interface alone; other lines tell the time")
+        .help("Take the frames of this interface alone")
         .action(ArgAction::Set)
 }
 
@@ -188,9 +182,9 @@ fn capture_command<'a>(
     alloc: Global,
     name: &'a str,
     about: &'a str,
-    example: &'a str,
+    sections: &'a str,
 ) -> Result<Command<'a>, AllocError> {
-    job_command(alloc, name, about, example)?
+    job_command(alloc, name, about, sections)?
         .arg(capture_arg(alloc))?
         .arg(interface_arg(alloc))
 }
@@ -198,38 +192,38 @@ fn capture_command<'a>(
 /// The command that answers the recording of a bus, with its flags.
 fn bus_command<'a>(alloc: Global) -> Result<Command<'a>, AllocError> {
     let about = "Answer the recording of a whole bus, as it comes";
-    let example = "Example: uds_play bus demo/setup.toml demo/bus.log";
     let end = flag(alloc, "end", "Print the end alone").conflicts_with("journal")?;
-    capture_command(alloc, "bus", about, example)?
+    capture_command(alloc, "bus", about, help::BUS)?
         .arg(flag(alloc, "journal", "Print the journal alone"))?
         .arg(end)
 }
 
 /// The command that judges the recording of a bus.
 fn verify_command<'a>(alloc: Global) -> Result<Command<'a>, AllocError> {
-    let about = "Say whether the unit in the recording of a whole bus answered as the server";
-    let example = "Example: uds_play verify demo/setup.toml demo/other_unit.log";
-    capture_command(alloc, "verify", about, example)
+    let about = "Say whether the unit in a recording answered as the server";
+    capture_command(alloc, "verify", about, help::VERIFY)
 }
 
 /// The command that tells of each exchange in the recording of a bus, with its flag.
 fn compare_command<'a>(alloc: Global) -> Result<Command<'a>, AllocError> {
-    let about = "Tell of each request in the recording of a whole bus what the unit answered";
-    let example = "Example: uds_play compare demo/setup.toml demo/other_unit.log";
+    let about = "Tell of each request in a recording what the unit answered";
     let differences = "Leave out the exchanges that agree or are ignored";
-    capture_command(alloc, "compare", about, example)?.arg(flag(alloc, "differences", differences))
+    capture_command(alloc, "compare", about, help::COMPARE)?.arg(flag(
+        alloc,
+        "differences",
+        differences,
+    ))
 }
 
 /// The command that serves a bus as it goes.
 fn live_command<'a>(alloc: Global) -> Result<Command<'a>, AllocError> {
-    let about = "Serve the bus whose lines come by standard input, in the time of the clock";
+    let about = "Serve the bus that comes by standard input, in the time of the clock";
     let record = Arg::new(alloc, "record")
         .long("record")
         .value_name("FILE")
-        .help("Keep the capture in this file, which must not be there yet")
+        .help("Keep the capture in this file, a new one")
         .action(ArgAction::Set);
-    let example = "Example: uds_play live demo/setup.toml < demo/bus.log";
-    job_command(alloc, "live", about, example)?
+    job_command(alloc, "live", about, help::LIVE)?
         .arg(interface_arg(alloc))?
         .arg(record)
 }
@@ -238,10 +232,10 @@ fn whole_command<'a>(alloc: Global) -> Result<Command<'a>, AllocError> {
     Command::new(alloc, "uds_play")
         .version(VERSION)
         .about(
-            "The diagnostic server of an ECU, for recordings, logs and live buses; without a command it plays an example",
+            "The diagnostic server of an ECU, for recordings, logs and live buses;{n}without a command it plays an example",
         )
         .disable_help_subcommand(true)
-        .after_help("Example: uds_play bus demo/setup.toml demo/bus.log")
+        .after_help(help::PROGRAM)
         .subcommand_required(true)
         .arg(quiet_flag(alloc))?
         .subcommand(check_command(alloc)?)?
@@ -253,13 +247,13 @@ fn whole_command<'a>(alloc: Global) -> Result<Command<'a>, AllocError> {
             alloc,
             "serial",
             "Play one log a tester, one event of each in turn",
-            "Example: uds_play serial demo/setup.toml demo/workshop.log demo/end_of_line.log",
+            help::SERIAL,
         )?)?
         .subcommand(play_command(
             alloc,
             "play",
             "Play one log a tester, each in a thread of its own",
-            "Example: uds_play play demo/setup.toml demo/workshop.log demo/end_of_line.log",
+            help::PLAY,
         )?)?
         .subcommand(replay_command(alloc)?)
 }

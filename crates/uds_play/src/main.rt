@@ -9,13 +9,15 @@ ghost use Rattle.diag_stored.specs.declared.TheConstants.{
   LOG_B as TheLogB,
 };
 ghost use Rattle.diag_run.specs.Files.{AreKnown};
+ghost use Rattle.diag_live.specs.Devices.{TellsBothWrites, TellsHearing};
 ghost use Rattle.diag_live.specs.Pace.{KeepsPace};
 ghost use Rattle.diag_live.specs.Stops.{Lived, Stopped};
-ghost use Rattle.diag_run.specs.Run.{DoneOf, GivesRun, TellsOf, read_of};
+ghost use Rattle.diag_run.specs.Run.{DoneOf, EndsOf, GivesRun, TellsOf, read_of};
 
 mod answer;
 mod command;
 mod flow_lines;
+mod help;
 mod last;
 mod notes;
 mod pace;
@@ -34,7 +36,7 @@ use diag_live::{Bench, live};
 use diag_run::{Ending, Job, Outcome, read_config, run_bus_and_tell, run_text};
 use diag_setup::Setup;
 use diag_stored::{CONFIG, LOG_A, LOG_B};
-use diag_text::{ReadFault, RunFault, read_whole, write_text, write_whole};
+use diag_text::{ReadFault, RunFault, Target, read_whole, write_text, write_whole};
 use last::Known;
 use notes::{FileKind, Notes, note, note_usage};
 use progress::Progress;
@@ -466,9 +468,9 @@ fn outcome_of<S: Ending, F: Read + Drop, W: Write>(
     interface: Option<&[u8]>,
     out: &mut W,
 ) -> Result<Outcome, AllocError> {
-    let config = Chosen::new(alloc, config, None)?;
-    let capture = Chosen::new(alloc, capture, interface)?;
-    Ok(run_bus_and_tell(alloc, sink, config, capture, out))
+    let mut config = Chosen::new(alloc, config, None)?;
+    let mut capture = Chosen::new(alloc, capture, interface)?;
+    Ok(run_bus_and_tell(alloc, sink, &mut config, &mut capture, out))
 }
 
 /// The same, while a thread shows how far the reading of a file of this size is.
@@ -522,6 +524,17 @@ fn run_live<R: Print + Eprint + Files + Input + AllocGlobal + Clock + Wait>(
             return status;
         }
     };
+    serve_input(rt, setup, hearing, &mut record, notes)
+}
+
+/// Hears standard input and serves it with this setup, up to its end.
+fn serve_input<R: Print + Eprint + Files + Input + AllocGlobal + Clock + Wait, F: Write>(
+    rt: &R,
+    setup: Setup,
+    hearing: Hearing,
+    record: &mut F,
+    notes: &Notes<'_>,
+) -> ExitCode {
     let Ok((pieces, first)) = hearing.begin(rt, rt.alloc(), notes.interface) else {
         return refuse(rt, &Refusal::Memory);
     };
@@ -530,7 +543,7 @@ fn run_live<R: Print + Eprint + Files + Input + AllocGlobal + Clock + Wait>(
         Err(e) => return refuse_clock(rt, e.kind()),
     };
     let mut out = io::writer(rt);
-    let outcome = serve(rt.alloc(), setup, &mut bench, &mut out, &mut record);
+    let outcome = serve(rt.alloc(), setup, &mut bench, &mut out, record);
     let heard = bench.known();
     match first.try_recv(rt) {
         Ok(first) => {
@@ -553,7 +566,7 @@ fn setup_of<C: Read>(alloc: Global, config: &mut C) -> Result<Setup, Outcome> {
 }
 
 /// Serves a bus until its input ends, and says how it ended.
-fn serve<B: Bench, W: Write, F: Write>(
+fn serve<B: Bench, W: Target, F: Target>(
     alloc: Global,
     setup: Setup,
     bench: &mut B,
@@ -566,6 +579,9 @@ fn serve<B: Bench, W: Write, F: Write>(
         (W.contents out.old) (W.contents out.new) (F.contents record.old) (F.contents record.new)) result }
     ensures fault { TellsOf (Stopped setup (B.remaining bench.old) (B.remaining bench.new)
         (W.contents out.old) (W.contents out.new) (F.contents record.old) (F.contents record.new)) result }
+    ensures devices { EndsOf (λ came. TellsHearing B.story bench.old bench.new came
+        × TellsBothWrites W.failed W.sound F.failed F.sound out.old out.new record.old record.new came) result }
+    ensures flushed { DoneOf (λ _. W.flushed out.new × F.flushed record.new) result }
 {
     match live(alloc, setup, bench, out, record) {
         Ok(()) => Outcome::Done { status: 0 },
