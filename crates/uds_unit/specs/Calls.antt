@@ -17,7 +17,7 @@ use Rattle.diag_store.specs.declared.dids.DidFault.TheVariants.{Unknown, Length}
 use Rattle.diag_bus.specs.Drawn.{Drawn}
 use Rattle.uds_unit.specs.Device.{DeviceState, HandedOut, Ran, SameUnit, ToldJournal, TookCall}
 use Rattle.uds_unit.specs.History.{At, Call}
-use Rattle.uds_unit.specs.Moments.{moment_us, start_of}
+use Rattle.uds_unit.specs.Moments.{clock_at, moment_us, start_of}
 use Rattle.uds_unit.specs.declared.exports.Code.{Code}
 use Rattle.uds_unit.specs.declared.exports.Reply.{Reply}
 use Rattle.uds_unit.specs.declared.exports.Session.{Session}
@@ -127,16 +127,17 @@ pub record Sets (old new : DeviceState) (call : Call) : Type 0 where
   pub took : TookCall old new call
   pub same : SameUnit old new
 
--- the unit took this call more, or memory was refused
-pub record Took (old new : DeviceState) (call : Call) (status : ℕ) : Type 0 where
+-- the unit took this moment more, with what is heard of its frame, or memory was refused; its clock is there either way
+pub record Took (old new : DeviceState) (moment : ℕ) (frame : Option Frame) (status : ℕ) : Type 0 where
   pub only : (status ≡ 0) ⊎ (status ≡ 4)
-  pub took : status ≡ 0 → TookCall old new call
+  pub took : status ≡ 0 → TookCall old new (At moment frame)
+  pub clock : new.clock ≡ Some (clock_at old.clock moment)
   pub same : SameUnit old new
 
--- the same of a moment with what is heard of its frame, where there is one
+-- the same with what is heard of a frame, where there is one
 abbrev pub TookFrame : DeviceState → DeviceState → ℕ → Option Frame → ℕ → Type 0
 TookFrame old new moment None status = (status ≡ 18) × (new ≡ old)
-TookFrame old new moment (Some frame) status = Took old new (At moment (heard old.setup frame)) status
+TookFrame old new moment (Some frame) status = Took old new moment (heard old.setup frame) status
 
 -- the ECU was set by this call, or the unit is as before
 pub record SetsOr (old new : DeviceState) (call : Call) (status : ℕ) : Type 0 where

@@ -58,16 +58,18 @@ TookCall old new call = (calls : List Call) (handed : List Drawn) (told : List �
     → Ran old calls handed told
     → Ran new (calls ++ call ∷ []) handed told
 
--- a frame was handed out
+-- a frame was handed out, the first that is due; all else is as before
 abbrev pub HandedOut : DeviceState → DeviceState → Drawn → Type 0
 HandedOut old new drawn = (old.waiting ≡ drawn ∷ new.waiting)
+    × (new ≡ record { setup = old.setup; server = old.server; wanted = old.wanted; text = old.text; clock = old.clock; waiting = new.waiting })
     × ((calls : List Call) (handed : List Drawn) (told : List ℕ)
     → Ran old calls handed told
     → Ran new calls (handed ++ drawn ∷ []) told)
 
--- the text of the journal was handed out
+-- the text of the journal was handed out; all else is as before
 abbrev pub ToldJournal : DeviceState → DeviceState → List ℕ → Type 0
 ToldJournal old new text = (text ≡ old.text)
+    × (new ≡ record { setup = old.setup; server = old.server; wanted = old.wanted; text = []; clock = old.clock; waiting = old.waiting })
     × ((calls : List Call) (handed : List Drawn) (told : List ℕ)
     → Ran old calls handed told
     → Ran new calls handed (told ++ text))

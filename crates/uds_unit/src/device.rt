@@ -1,6 +1,6 @@
 //! A unit on a bus: the server, the clock, and what is due.
 
-ghost use Rattle.std.specs.Prelude.{◌≡◌, ◌≤◌, [], length, IfOk, IfSome, IfNone, OnOk, OnErr, is_some, option_map, slice_get};
+ghost use Rattle.std.specs.Prelude.{◌≡◌, ◌≤◌, [], length, IfOk, IfSome, IfNone, Some, OnOk, OnErr, is_some, option_map, slice_get};
 ghost use Rattle.std.specs.Bool.{OnFalse};
 ghost use Rattle.diag_can.specs.Line.{is_fd_among};
 ghost use Rattle.diag_setup.specs.Setup.{did_id, is_fd_of, known_ids};
@@ -10,7 +10,7 @@ ghost use Rattle.diag_world.specs.Server.{quiet_of, server_of};
 ghost use Rattle.uds_unit.specs.Device.{HandedOut, Ran, SameUnit, ToldJournal, TookCall, latest_ms};
 ghost use Rattle.uds_unit.specs.History.{At, SetStatus, SetValue};
 ghost use Rattle.uds_unit.specs.Journal.{entered};
-ghost use Rattle.uds_unit.specs.Moments.{due_us, start_of};
+ghost use Rattle.uds_unit.specs.Moments.{clock_at, due_us, start_of};
 
 use crate::clock::{Clock, moment_us};
 use crate::frames::queue_drawn;
@@ -101,10 +101,12 @@ impl Device {
     /// Takes a moment in milliseconds, and the frame then, if there is one. An earlier moment counts as the latest so far.
     ///
     /// # Errors
-    /// Where memory is refused, or 2^40 replies wait. Then nothing is said of what the unit took.
+    /// Where memory is refused, or 2^40 replies wait. Then nothing is said of what the unit took but that its clock is at the
+    /// moment.
     pub fn take(&mut self, moment: u64, frame: Option<GivenFrame<'_>>) -> Result<(), AllocError>
         requires { moment ≤ latest_ms }
         ensures took { OnOk result (TookCall self.old self.new (At moment frame.entry)) }
+        ensures clock { self.new.clock ≡ Some (clock_at self.old.clock moment) }
         ensures same { SameUnit self.old self.new }
     {
         let span = Clock::span(self.clock, moment);

@@ -10,7 +10,7 @@ ghost use Rattle.diag_store.specs.Dtcs.{row_pair, status_of};
 ghost use Rattle.diag_world.specs.Server.{quiet_of, server_of};
 ghost use Rattle.uds_unit.specs.Calls.{Both, CopiedInto, CopiesWhole, HandedReply, Opened, Refused, Sets, SetsOr, TellsCode, TellsFault, TellsNumber, TellsOr, TellsValue, Took, TookFrame, close_status, code_status, all_of, fault_line, frame_of, heard, identifier_of, session_told, told_fd, told_id, write_status};
 ghost use Rattle.uds_unit.specs.Moments.{due_us, moment_us};
-ghost use Rattle.uds_unit.specs.History.{At, SetStatus, SetValue};
+ghost use Rattle.uds_unit.specs.History.{SetStatus, SetValue};
 
 use crate::clock::moment_us;
 use crate::device::Device;
@@ -235,7 +235,7 @@ fn told_fd(fd: bool) -> u8
 
 /// Gives a unit a moment in microseconds, and the frame then, if there is one.
 fn give(device: &mut Device, at_us: u64, frame: Option<GivenFrame<'_>>) -> u32
-    ensures { Took device.old device.new (At (at_us / 1000) frame.entry) result }
+    ensures { Took device.old device.new (at_us / 1000) frame.entry result }
 {
     match device.take(at_us / 1000, frame) {
         Ok(()) => DONE,
@@ -294,7 +294,7 @@ pub extern "C" fn uds_unit_frame(
 #[unsafe(no_mangle)]
 pub extern "C" fn uds_unit_pass(alloc: Global, unit: &mut Handle, to_us: u64) -> u32
     ensures closed { unit.old.unit ≡ None → result ≡ 16 }
-    ensures took { Both unit.old.unit unit.new.unit (λ old new. Took old new (At (to_us / 1000) None) result) }
+    ensures took { Both unit.old.unit unit.new.unit (λ old new. Took old new (to_us / 1000) None result) }
 {
     let Some(mut device) = mem::replace(unit, Handle::closed(alloc)).into_box() else {
         return CLOSED;
