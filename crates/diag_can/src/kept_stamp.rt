@@ -1,6 +1,6 @@
 //! A stamp, kept for the next one, which mostly has the same second.
 
-ghost use Rattle.std.specs.Prelude.{◌≡◌, ◌<◌, ◌≤◌, ◌+◌, ◌/◌, ◌^◌, ◌++◌, codes, IsFalse, IsTrue, vec_len, vec_capacity};
+ghost use Rattle.std.specs.Prelude.{◌≡◌, ◌<◌, ◌≤◌, ◌+◌, ◌/◌, ◌^◌, ◌++◌, codes, drop, take, IsFalse, IsTrue, vec_len, vec_capacity};
 ghost use Rattle.diag_can.specs.Reply.{stamp, stamp_digits};
 
 use crate::hex_text::add;
@@ -30,6 +30,24 @@ impl Model for KeptStamp {
     ghost view = { λ s. s.at };
 
     ghost invariant = { λ s. IsStamp s.at s.second s.seconds s.thousandths };
+}
+
+/// `SECONDS.` of `(SECONDS.`. (A slice of it would go byte by byte.)
+#[inline(always)]
+fn without_bracket(seconds: [u8; 12]) -> [u8; 11]
+    ensures { result ≡ take 11 (drop 1 seconds) }
+{
+    let [_, a, b, c, d, e, f, g, h, i, j, point] = seconds;
+    [a, b, c, d, e, f, g, h, i, j, point]
+}
+
+/// `MILLISECONDS000` of `MILLISECONDS000) `.
+#[inline(always)]
+fn without_close(thousandths: [u8; 8]) -> [u8; 6]
+    ensures { result ≡ take 6 thousandths }
+{
+    let [a, b, c, d, e, f, _, _] = thousandths;
+    [a, b, c, d, e, f]
 }
 
 impl KeptStamp {
@@ -109,8 +127,7 @@ impl KeptStamp {
         ensures len { vec_len text.new ≡ vec_len text.old + 17 }
         ensures capacity { vec_capacity text.new ≡ vec_capacity text.old }
     {
-        let (seconds, thousandths) = (self.seconds, self.thousandths);
-        add(text, &seconds[1..]);
-        add(text, &thousandths[..6]);
+        add(text, &without_bracket(self.seconds));
+        add(text, &without_close(self.thousandths));
     }
 }
