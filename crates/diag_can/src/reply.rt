@@ -115,6 +115,7 @@ fn add_late_stamp(text: &mut Vec<u8>, at: u64)
 
 /// Appends the digits and the point of the stamp of a time, in milliseconds, whose seconds have more than ten digits, where
 /// there is room.
+#[inline(always)]
 pub fn add_late_digits(text: &mut Vec<u8>, at: u64)
     requires late { 10 ^ 10 ≤ at / 1000 }
     requires room { vec_len text.old + 27 ≤ vec_capacity text.old }
