@@ -549,7 +549,7 @@ class OfTheBus(unittest.TestCase):
             self.assertEqual(wanted, (found.longest, found.too_long), asks)
 
     def test_filling(self) -> None:
-        """It is seen of SingleFrames, of FlowControl, and of the last Consecutive frame."""
+        """It is seen of SingleFrames, of FlowControl, and of the last ConsecutiveFrame."""
         pair, first = [learn_bus.Pair(0x7E0, 0x7E8)], "7E8#100862F18C010203"
         for pad, *frames in (
             (0xAA, "7E8#300805AAAAAAAAAA"), (None, "7E8#300805"), (0xAA, first, "7E8#210405AAAAAAAAAA"), (None, first, "7E8#210405"),
@@ -872,14 +872,14 @@ class OfRecordings(unittest.TestCase):
         long = [(0, "7E0#0322F190"), (3, "7E8#101362F190313233"), (4, "7E0#300000"), (5, "7E8#2134353637383941"), (6, "7E8#22424344454647"), (100, "7E0#023E00"), (105, "7E8#027E00")]
         whole = learned_of(frames(*long))
         self.assertEqual((0, "", {}), (whole.status, whole.told, rows_of(whole)))
-        told = "learn: line 2: a Consecutive frame (number {}) of what tester_7E0 was sent is missing: nothing is learned of 22F190 at line 1\n"
+        told = "learn: line 2: a ConsecutiveFrame (SequenceNumber {}) of a message to tester_7E0 is missing: nothing is learned of 22F190 at line 1\n"
         for text, wanted, lines in (
-            ("the first Consecutive frame is missing", told.format(1), long[:3] + long[4:]),
+            ("the first ConsecutiveFrame is missing", told.format(1), long[:3] + long[4:]),
             ("the last one is missing", told.format(2), long[:4] + long[5:]),
             ("a sequence gap", told.format(1), long[:3] + [(5, "7E8#2334353637383941")] + long[4:]),
             ("a frame twice", told.format(2), long[:4] + [(6, "7E8#2134353637383941")] + long[4:]),
             ("response pending before it", told.format(1).replace("line 2", "line 3"), long[:1] + [(2, "7E8#037F2278")] + long[1:3] + long[4:]),
-            ("the FirstFrame is missing", "learn: line 4: the FirstFrame of what tester_7E0 was sent is missing: nothing is learned of 22F190 at line 3\n", [*((at - 200, it) for at, it in long[-2:]), *long[:1], *long[3:]]),
+            ("the FirstFrame is missing", "learn: line 4: the FirstFrame of a message to tester_7E0 is missing: nothing is learned of 22F190 at line 3\n", [*((at - 200, it) for at, it in long[-2:]), *long[:1], *long[3:]]),
         ):
             lines = frames(*((at + 300, it) for at, it in lines))
             found = learned_of(lines)
@@ -911,7 +911,7 @@ class OfRecordings(unittest.TestCase):
         write = [(100, "7E0#100A2EF190313233"), (101, "7E8#300000"), (102, "7E0#2134353637")]
         lines = frames(*session, *write[:2], (110, "7E8#036EF190"), (200, "7E0#023E00"), (203, "7E8#027E00"))
         found = learned_of(lines)
-        self.assertEqual((8, "learn: line 3: a Consecutive frame (number 1) of a request of tester_7E0 is missing: nothing is learned of the answer at line 5\n"), (found.status, found.told))
+        self.assertEqual((8, "learn: line 3: a ConsecutiveFrame (SequenceNumber 1) of a request of tester_7E0 is missing: nothing is learned of the answer at line 5\n"), (found.status, found.told))
         for text, more in (("no answer", []), ("another message", [(110, "7E8#036EF190"), (111, "7E8#036EF190")])):
             found = learned_of(frames(*session, *(write if more else write[:2]), *more, (200, "7E0#023E00"), (203, "7E8#027E00")))
             self.assertEqual((8 if more else 0, False), (found.status, "missing" in found.told), text)
@@ -928,9 +928,9 @@ class OfRecordings(unittest.TestCase):
         """As are lines that stand twice; both change nothing else."""
         read = ["7E0#0322F190", "7E8#0462F19041", "7E0#023E00", "7E8#027E00"]
         late = learned_of(frames((0, read[0]), (3, read[1]), (100, read[2]), (99, read[3]), (98, "7E0#023E80"), (120, "123#00")))
-        self.assertIn("learn: note: line 4 has an earlier stamp than a line above it, and 1 more have: the recording is out of order\n", late.told)
+        self.assertIn("learn: note: frames whose stamps are less than one before: 2, the first is line 4\n", late.told)
         twice = learned_of(frames((0, read[0]), (3, read[1]), (100, read[2]), (105, read[3]), (200, "7E0#023E80"), (200, "7E0#023E80"), (230, "123#00"), (230, "123#00")))
-        self.assertEqual((0, "learn: note: line 6 says what the line above it says, with its stamp\n"), (twice.status, twice.told))
+        self.assertEqual((0, "learn: note: frames that repeat the one before, with its stamp: 1, the first is line 6\n"), (twice.status, twice.told))
         order = Order()
         for at, (now, rest) in enumerate(((5, "000"), (5, "001"), (5, "001"), (4, "001"), (5, "001"), (5, "001"))):
             order.take(at, now, rest, "7E0", "023E80")

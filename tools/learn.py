@@ -13,14 +13,14 @@ talks by that, and so does one that is given as REQUEST:RESPONSE:fd=NAME. A test
 that of `--functional`, or its own, given as REQUEST:RESPONSE:FUNCTIONAL=NAME. With `--interface` the frames of one interface
 count. With `--varies` an identifier that was read with different values, and seeds that differ, aren't compared, but for
 how long they are; where the same request was refused in between, or the length changed, a row has the answers in turn, with
-`??` for each byte of the value. So has a row of another service `??` for what changed from one request to an equal one: the
-whole value where its place is known (OBD, 23, 2F, results of routines), else the bytes that changed. Without it the answers
-come one after the other, round and round.
+`??` for each byte of the value. Rows of other services have `??` for what changed between equal requests: the whole value where
+its place is known (OBD, 23, 2F, results of routines), else the bytes that changed. Without it the answers come one after the
+other, round and round.
 
 The judge is `compare` of the program that ./uds_play starts: a setup is made, compared with the recording, and what differs
 becomes rows of answers, until nothing differs or nothing gets better. The status is 0 where nothing differs; 8 where
-something does, which is told on standard error, exchange by exchange, or where the recording lacks a Consecutive frame: then
-nothing is learned of that exchange, which is told by its line; 9 where nothing was compared; else that of the
+something does, which is told on standard error, exchange by exchange, or where the recording lacks a frame of a message of
+several: then nothing is learned of that exchange, which is told by its line; 9 where nothing was compared; else that of the
 program's fault: with 2 the setup that it doesn't take is printed. No part of what is proved."""
 import argparse
 import os
@@ -395,7 +395,8 @@ def unit_of(path: str, given: list[Pair], words: argparse.Namespace, progress: P
     lines = lines_at(path, [*(it.at for it in losses.found), *order.late[:1], *order.twice[:1]])
     lost = lost_of(losses, lines, map(Pair.texts, pairs))
     is_all_fd = f"{narrow or FUNCTIONAL:03X}" in sight.by_fd, f"{wide or FUNCTIONAL_29:08X}" in sight.by_fd
-    return Unit(pairs, narrow, sending, varies=words.varies, functional_29=wide, is_all_fd=is_all_fd, end=end_of(path), lost=lost, notes=list(order.notes(lines)))
+    notes = list(order.notes(lines))
+    return Unit(pairs, narrow, sending, varies=words.varies, functional_29=wide, is_all_fd=is_all_fd, end=end_of(path), lost=lost, notes=notes)
 
 
 def program() -> str:

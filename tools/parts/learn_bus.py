@@ -222,9 +222,9 @@ class Sending:
     """How the unit and its testers send: the padding byte, None for none; block size and STmin of the unit's flow control, and how
     often it had which;
     the longest request that it didn't refuse by that, and the shortest that it did, None where it refused none; the longest
-    time within a request, and that for which an answer waited for flow control, in milliseconds; which messages lack
-    a frame, and which lines are out of order; when it sent FlowControl wait; and of its frames of CAN FD the length of FirstFrames, the flags, and the byte
-    that fills those of more than 8 bytes, None where none was seen."""
+    time within a request, and that for which an answer waited for flow control, in milliseconds; which messages lack a frame,
+    and which lines are out of order; when it sent FlowControl wait; and of its frames of CAN FD the length of FirstFrames, the
+    flags, and the byte that fills those of more than 8 bytes, None where none was seen."""
 
     pad: Optional[int] = 0xCC
     block_size: int = 0
@@ -327,7 +327,7 @@ class Filling:
     long: Counter = field(default_factory=Counter)
 
     def take(self, data: str, ending: int) -> None:
-        """A frame, with so many bytes of its message where it is the last Consecutive frame."""
+        """A frame, with so many bytes of its message where it is the last ConsecutiveFrame."""
         size, used = len(data) // 2, used_of(data, ending)
         if 0 < used == size < 8:
             self.short[None] += 1
@@ -346,7 +346,7 @@ class Filling:
 
 
 def used_of(data: str, ending: int) -> int:
-    """How many bytes of a SingleFrame, of FlowControl or of the last Consecutive frame aren't filling; 0 of another frame."""
+    """How many bytes of a SingleFrame, of FlowControl or of the last ConsecutiveFrame aren't filling; 0 of another frame."""
     if data[:2] == "00":
         return 2 + int(data[2:4], 16) if len(data) > 16 else 0
     if data[:1] == "0":

@@ -9,14 +9,14 @@ from learn_judge import Exchange, Judge, Verdict, shortened
 
 # so much of a recording is read at a time
 BLOCK = 1 << 22
-# the sequence number behind each, as their digits
+# the SequenceNumber after each, as their digits
 BEHIND = dict(zip("0123456789ABCDEF", "123456789ABCDEF0"))
 
 
 class Loss(NamedTuple):
     """A message that lacks a frame: where its first line begins in the recording, the identifier that sent it, the first four
-    digits of the message, empty where they are lost, and the number of the Consecutive frame that is missing, None where it is
-    the FirstFrame."""
+    digits of the message, empty where they are lost, and the SequenceNumber of the ConsecutiveFrame that is missing, None where
+    the FirstFrame is."""
 
     at: int
     identifier: str
@@ -27,7 +27,7 @@ class Loss(NamedTuple):
 @dataclass(slots=True)
 class Open:
     """A message that is coming in: where its first line begins, its first four digits, how many bytes are wanted still, the
-    next sequence number as its digit, and whether the other side let them come."""
+    next SequenceNumber as its digit, and whether the other side let them come."""
 
     at: int
     begin: str
@@ -38,7 +38,7 @@ class Open:
 
 @dataclass
 class Losses:
-    """Which messages of several frames lack one, or have another sequence number; of each identifier its message that is coming
+    """Which messages of several frames lack one, or have one with another SequenceNumber; of each identifier its message that is coming
     in, and the kind of its latest frame. What the other side didn't let come lacks nothing."""
 
     found: list[Loss] = field(default_factory=list)
@@ -59,7 +59,7 @@ class Losses:
             self.last[identifier] = kind
 
     def go_on(self, was: Open, identifier: str, size: int) -> None:
-        """The next Consecutive frame, with so many bytes at most."""
+        """The next ConsecutiveFrame, with so many bytes at most."""
         was.wanted, was.number, was.is_let = was.wanted - size, BEHIND[was.number], True
         if was.wanted <= 0:
             del self.open[identifier]
@@ -94,8 +94,8 @@ class Losses:
 
 @dataclass
 class Order:
-    """Whether lines are in order: where the first one begins whose stamp is before that of a frame above it, and the first one
-    that stands twice, and how many of each there are."""
+    """Whether frames are in order: where the lines begin whose stamps are less than that of a frame before, and those that say
+    what the frame before says, with its stamp."""
 
     late: list[int] = field(default_factory=list)
     twice: list[int] = field(default_factory=list)
@@ -116,13 +116,12 @@ class Order:
 
     def notes(self, lines: dict[int, int]) -> Iterable[str]:
         """What is told of it, by the numbers of these lines."""
-        for found, one, more in (
-            (self.late, "has an earlier stamp than a line above it", "have: the recording is out of order"),
-            (self.twice, "says what the line above it says, with its stamp", "do: the recording has frames twice"),
+        for found, what in (
+            (self.late, "frames whose stamps are less than one before"),
+            (self.twice, "frames that repeat the one before, with its stamp"),
         ):
             if found:
-                others = f", and {len(found) - 1} more {more}" if len(found) > 1 else ""
-                yield f"note: line {lines[found[0]]} {one}{others}"
+                yield f"note: {what}: {len(found)}, the first is line {lines[found[0]]}"
 
 
 def lines_at(path: str, places: Iterable[int]) -> dict[int, int]:
@@ -156,11 +155,12 @@ class Lost:
 
     def told(self, of: Optional[Exchange], name: str) -> str:
         """What is missing, in words, and of what exchange."""
-        frame = "the FirstFrame" if self.number is None else f"a Consecutive frame (number {self.number:X})"
+        frame = "the FirstFrame" if self.number is None else f"a ConsecutiveFrame (SequenceNumber {self.number:X})"
         if self.is_request:
-            return f"line {self.line}: {frame} of a request of {name} is missing: nothing is learned of the answer at line {of.line}"
+            rest = f"nothing is learned of the answer at line {of.line}"
+            return f"line {self.line}: {frame} of a request of {name} is missing: {rest}"
         rest = f"nothing is learned of {shortened(of.request.hex().upper())} at line {of.line}" if of else "nobody asked for it"
-        return f"line {self.line}: {frame} of what {name} was sent is missing: {rest}"
+        return f"line {self.line}: {frame} of a message to {name} is missing: {rest}"
 
 
 def lost_of(losses: Losses, lines: dict[int, int], pairs: Iterable[tuple[str, str]]) -> list[Lost]:

@@ -62,8 +62,8 @@ class Case:
 
 
 def cases_of(unit: Unit, exchanges: list[Exchange], rows: Optional[list[Row]] = None) -> list[Case]:
-    """The exchanges that have a request and lack no frame, those that are alike together, in the sessions to which these rows lead; without rows
-    those alone that change the session, in the unit's own."""
+    """The exchanges that have a request and lack no frame, those that are alike together, in the sessions to which these rows lead;
+    without rows those alone that change the session, in the unit's own."""
     walk, found, deciding, gaps = Walk(unit.s3), {}, Deciding(rows or ()), defaultdict(list)
     for it in exchanges:
         if it.request:
@@ -110,7 +110,8 @@ def grouped(cases: Iterable[Case], key: Callable[[Case], Hashable]) -> dict[Hash
 def answers_of(cases: list[Case], held: Held) -> list[str]:
     """The answers of some cases of one request, in the order of their exchanges, as the row of a session and a level has them. One
     that lacks a frame, and is decided by this row, too, has the answer before it, for it takes a place in the row."""
-    gaps = [(line, place, None) for line, place, of in cases[0].gaps if held.session in (0, of.session) and held.level in (0, of.level)]
+    decided = (it for it in cases[0].gaps if held.session in (0, it[2].session) and held.level in (0, it[2].level))
+    gaps = [(line, place, None) for line, place, _ in decided]
     own = [(it.line, it.place, case.answer) for case in cases for it in case.all]
     found: list[str] = []
     for *_, answer in sorted([*own, *gaps], key=lambda it: it[:2]):
