@@ -37,11 +37,13 @@ sys.dont_write_bytecode = True
 sys.path.append(os.path.join(os.path.dirname(os.path.abspath(__file__)), "parts"))
 from learn_bus import ANSWER_MS, FUNCTIONAL, FUNCTIONAL_29, MOST_TESTERS, Pair, Sending
 from learn_bus import end_of, functional_of, look, pair_of, pairs_of, sending_of
+from learn_frames import BLOCK
 from learn_judge import AGREES, BAD_SETUP, DIFFERS, NOTHING, Exchange, Judge, Program, Refused, Verdict, shortened
 from learn_lost import knowing, lines_at, lost_of
 from learn_model import is_left_pending, learn_model, session_of
-from learn_rows import MOST_BYTES, Plan
-from learn_setup import Row, Unit, is_apart, moment, setup_text, why_apart
+from learn_plan import Plan
+from learn_rows import MOST_BYTES
+from learn_setup import Row, Unit, is_apart, setup_text, why_apart
 from uds_streams import CannotWrite, fault_words, input_bytes, ready, write_out
 
 TOP = os.path.dirname(os.path.dirname(os.path.abspath(__file__)))
@@ -51,8 +53,6 @@ DEBIAN = "/usr/lib/python3/dist-packages"
 OTHERS = (".asc", ".blf", ".trc", ".csv", ".mf4", ".db")
 # how a line of `candump -L` begins
 OF_CANDUMP = re.compile(rb"\(\d+\.\d+\) +\S+ +[0-9A-Fa-f]+#")
-# so much of a recording is read at a time
-BLOCK = 1 << 22
 # the most rounds, and how many of them may bring nothing
 MOST_ROUNDS, MOST_IDLE = 16, 6
 # the most differences that are told one by one

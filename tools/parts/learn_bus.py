@@ -3,7 +3,7 @@ and its testers send their frames. For tools/learn.py; no part of what is proved
 import re
 from collections import Counter, defaultdict
 from dataclasses import dataclass, field, replace
-from typing import Iterable, Iterator, Optional
+from typing import Iterable, Optional
 
 from learn_frames import LENGTHS, frames_of, length_of, message_at
 from learn_lost import Losses, Order

@@ -3,6 +3,8 @@ proved."""
 import re
 from typing import Iterable, Iterator, Optional
 
+# so much of a recording is read at a time
+BLOCK = 1 << 22
 # how long the frames of a long message may be
 LENGTHS = (8, 12, 16, 20, 24, 32, 48, 64)
 

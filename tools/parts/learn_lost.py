@@ -4,11 +4,9 @@ from bisect import bisect_left
 from dataclasses import dataclass, field
 from typing import Iterable, NamedTuple, Optional
 
-from learn_frames import LENGTHS, length_of, message_at
+from learn_frames import BLOCK, LENGTHS, length_of, message_at
 from learn_judge import Exchange, Judge, Verdict, shortened
 
-# so much of a recording is read at a time
-BLOCK = 1 << 22
 # the SequenceNumber after each, as their digits
 BEHIND = dict(zip("0123456789ABCDEF", "123456789ABCDEF0"))
 
@@ -100,7 +98,7 @@ class Order:
     late: list[int] = field(default_factory=list)
     twice: list[int] = field(default_factory=list)
     latest: int = 0
-    # the line above, and its data
+    # the frame before, and its data
     last: tuple[int, str, str] = 0, "", ""
     data: str = ""
 
