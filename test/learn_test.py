@@ -892,6 +892,11 @@ class OfRecordings(unittest.TestCase):
         for text, lines in (("no FlowControl", long[:2]), ("the tester has no room", [*long[:2], (4, "7E0#320000")]), ("it begins within one", long[3:4])):
             found = learned_of(frames(*lines, *long[-2:]))
             self.assertEqual((0, False), (found.status, "missing" in found.told), text)
+        found = learned_of(frames(*long[-2:], *((at + 200, it) for at, it in long[:2])))
+        self.assertEqual((0, False), (found.status, "missing" in found.told), "the end before FlowControl")
+        found = learned_of(frames(*long, *((at + 300, it) for at, it in long[1:3]), (400, "7E0#023E00"), (405, "7E8#027E00")))
+        told = "learn: line 8: a ConsecutiveFrame (SequenceNumber 1) of a message to tester_7E0 is missing: nobody asked for it\n"
+        self.assertEqual((8, told, [0xF190]), (found.status, found.told, [it["id"] for it in found.tree()["did"]]), "a second answer")
 
     def test_lost_frames_within_a_round(self) -> None:
         """The exchange takes its place among answers in turn: those behind it are right."""
@@ -905,6 +910,16 @@ class OfRecordings(unittest.TestCase):
             again = kept[max(gone - 1, 0)]
             self.assertEqual((8, 1, {"22F40C": kept[:gone] + [again] + kept[gone:]}), (found.status, found.told.count("learn: line"), rows_of(found)), gone)
 
+    def test_lost_frames_beside_a_round(self) -> None:
+        """An exchange in another session than the row's takes no place in the row."""
+        extended, default, value = ("1003", "5003003201F4"), ("1001", "5001003201F4"), "62F19031323334353637"
+        rounds = ["7F2233", "7F2231", "7F2231"]
+        asks = [extended, ("22F190", rounds[0]), default, ("22F190", value), extended, *(("22F190", it) for it in rounds[1:])]
+        lines = asked(("22F190", value), *asks, ("3E00", "7E00")).splitlines(keepends=True)
+        lost = [at for at, line in enumerate(lines) if "7E8#2" in line][1]
+        found = learned_of("".join(lines[:lost] + lines[lost + 1 :]))
+        self.assertEqual((8, 1, {"22F190": rounds}), (found.status, found.told.count("learn: line"), rows_of(found)))
+
     def test_lost_frames_of_a_request_are_told(self) -> None:
         """Its answer isn't what nobody asked for; where there is none the tester left it off."""
         session = [(0, "7E0#021003"), (3, "7E8#065003003201F4")]
@@ -917,7 +932,7 @@ class OfRecordings(unittest.TestCase):
             self.assertEqual((8 if more else 0, False), (found.status, "missing" in found.told), text)
 
     def test_many_lost_frames(self) -> None:
-        """They don't keep the tool from learning the rest, and a long recording of them isn't slow."""
+        """They don't keep the tool from learning the rest. The first thousand are told."""
         read = [(0, "7E0#0322F190"), (3, "7E8#100C62F190313233"), (4, "7E0#300000")]
         lines = frames(*((at * 20 + ms, it) for at in range(1500) for ms, it in [*read, (10, "7E0#0322F195"), (13, "7E8#0462F19541")]))
         found = learned_of(lines)

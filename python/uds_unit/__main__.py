@@ -19,7 +19,7 @@ if TYPE_CHECKING:
 
 # what ends the program: Ctrl-C, kill, and a terminal that is closed
 SIGNALS = (signal.SIGINT, signal.SIGTERM, signal.SIGHUP)
-# the seconds in which it may end by itself behind the first
+# the seconds in which it may end by itself after the first
 GRACE = 2.0
 # how many seconds apart the journal's file is written to
 EVERY = 1.0

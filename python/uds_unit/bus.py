@@ -81,7 +81,7 @@ class UnitBus:
     from it: a Notifier, as any tester, wants a bus of its own on the channel. A forked process has no such thread: don't use the
     object there.
 
-    The unit takes frames in order: behind a request without an answer send `3E00` and wait for its answer.
+    The unit takes frames in order: after a request without an answer send `3E00` and wait for its answer.
 
     The unit's time is the machine's monotonic clock. Where a ConsecutiveFrame goes late, those behind it to the same tester go
     later, too: two are never nearer to each other than their separation time. FlowControl that comes while one waits is passed

@@ -7,7 +7,7 @@ The setup is that of the ini key `uds_setup`, or what a fixture `uds_setup` of y
         assert uds_unit.bus.recv(1).data[1] == 0x50
         assert uds_unit.unit.holder == "workshop"
 
-The unit takes frames in order: behind a request without an answer send `3E00` and wait for its answer.
+The unit takes frames in order: after a request without an answer send `3E00` and wait for its answer.
 """
 import contextlib
 import itertools

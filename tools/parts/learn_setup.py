@@ -165,10 +165,6 @@ def commented(text: str) -> str:
     return "\n".join(f"# {it}" for it in textwrap.wrap(text, 100)) + "\n"
 
 
-def truth(value: bool) -> str:
-    return "true" if value else "false"
-
-
 def as_text(value: bytes) -> str:
     """Behind a value of four bytes or more that all are printable: as text."""
     is_text = len(value) >= 4 and all(32 <= it < 127 for it in value)

@@ -13,7 +13,7 @@ const BYTES_OF_A_LINE = 24;
 
 const stateOf = (item) => STATES[exchanges.state[item]];
 const kindOf = (item) => KINDS[exchanges.kind[item]];
-// (what the server replies stands apart where it is another answer alone)
+// (the server's answer has words of its own only where it is another one)
 const isSame = (side, item) => exchanges[side][item] < 0;
 const wordsOf = (side, item) => (isSame(side, item) ? "the same" : texts[exchanges[side][item]][0]);
 const digitsOf = (side, item) => texts[exchanges[isSame(side, item) ? "sent" : side][item]][1];
