@@ -30,7 +30,7 @@ from learn_judge import Exchange
 from learn_lost import Order, lines_at
 from learn_model import Held, one_round, s3_of, values_in
 from learn_rows import Case, orders_of, pattern_of, shortened, template_of
-from learn_setup import Did, Row, Seen, Unit, between, code_name, row_words
+from learn_setup import Did, Row, Seen, Unit, between, code_name, free_identifier, row_words
 from uds_link import LENGTHS, cut
 from uds_link import Setup as LinkSetup
 
@@ -969,6 +969,19 @@ class OfRecordings(unittest.TestCase):
         self.assertIn(" F 22F190 62F19041 = ", judged("compare", found, lines)[1])
         found = learned_of(lines, "--pair", "7E0:7E8:700=a", "--pair", "7A0:7A8=b")
         self.assertEqual([0x700, None], [it.get("functional") for it in found.tree()["tester"]])
+        pairs, reads = ("--pair", "7E0:7E8:700=a", "--pair", "7A0:7A8=b"), frames(*((at * 100, it) for at, it in enumerate(asks[:4])))
+        for text, more in (
+            ("of another tester alone", [(1000, "700#023E80"), (1100, "700#023E80"), (1200, "700#023E80")]),
+            ("answered to a tester that has its own", [(1000, "702#0322F190"), (1004, "7E8#0462F19041"), (1100, "702#0322F190"), (1104, "7E8#0462F19041")]),
+        ):
+            found = learned_of(reads + frames((800, "701#0322F190"), (804, "7A8#0462F19041"), *more, (3000, "123#00")), *pairs)
+            self.assertEqual(0x701, found.tree()["functional"], text)
+        apart = frames((0, "7A0##10322F190"), (4, "7A8##10462F19041"), (100, "7DF##1023E80"), (200, "7DF##1023E00"), (204, "7E8#027E00"), (2000, "123#00"))
+        found = learned_of(apart, *pairs)
+        self.assertEqual([0x700, None], [it.get("functional") for it in found.tree()["tester"]])
+        self.assertEqual((8, False), (found.status, "counts as unasked" in found.told), found.told)
+        own = [learn_bus.Pair(0x7E0, 0x7E8, functional=0x7FF), learn_bus.Pair(0x7A0, 0x7A8)]
+        self.assertEqual(0x7FE, free_identifier(Unit(own, None, learn_bus.Sending())))
         told = "learn: --functional 7DF has no effect: --pair gives each tester its own\n"
         self.assertEqual((0, told), self.told(lines, "--pair", "7E0:7E8:700", "--pair", "7A0:7A8:701", "--functional", "7DF"))
 
@@ -1149,6 +1162,7 @@ class OfRecordings(unittest.TestCase):
             ([("3101FF00440001", "7101FF0010")], {"3101FF00440001": ["7101FF0010"]}),
             ([("3101FF0044", "7101FF0010"), ("3101FF0045", "7101FF0010"), ("3101FF004501", "7F3113")], {"3101FF004501": ["7F3113"], "3101FF00*": ["7101FF0010"]}),
             ([("3101FF00440001", "7101FF00"), ("3101FF00440002", "7101FF00"), ("3101FF01", "7101FF01")], {"3101FF00*": ["7101FF00"]}),
+            ([*((f"3101FF00{it}", "7101FF00AA") for it in ("44", "45")), *((f"3101FF00{it}", "7F3113") for it in ("4400", "4500"))], {f"3101FF00{it}": ["7101FF00AA"] for it in ("44", "45")}),
             ([("3601AABBCC", "7601"), ("3602AABBDD", "7602"), ("3603AABB", "7603")], {"36..*": ["76$1"]}),
             ([("2F01000301AA", "6F010003"), ("2F01000302", "6F010003"), ("2F01010301", "6F010103")], {"2F010003*": ["6F010003"], "2F01010301": ["6F010103"]}),
             ([("2F01000301", "6F01000301"), ("2F01000302", "6F01000302")], {"2F010003..": ["6F010003$4"]}),

@@ -197,7 +197,7 @@ def is_of_family(row: Row) -> bool:
     sid = int(row.request[:2], 16)
     size = DATA_BEHIND.get(sid, MOST_ITEMS)
     is_one = not is_wide_row(row) and len(uds_rules.items_of(row.request.removesuffix("*"))) > size
-    if not is_one or sid not in SERVICES or row.enter or row.reply is None or len(row.reply) != 1:
+    if not is_one or sid not in SERVICES or row.reply is None or len(row.reply) != 1:
         return False
     return row.reply[0].startswith(f"{sid + 0x40:02X}") and (sid != 0x27 or int(row.request[2:4], 16) % 2 == 0)
 
