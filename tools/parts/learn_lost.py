@@ -180,10 +180,11 @@ def exchange_of(lost: Lost, own: list[Exchange]) -> Optional[Exchange]:
     at = bisect_left(own, lost.line, key=lambda it: it.line)
     if lost.is_request:
         asked = bytes.fromhex(lost.begin)
-        unasked = (it for it in own[at:] if it.kind == "U" and asked and answers(it.sent[:2].hex(), asked))
-        return next(unasked, None)
-    behind = (it for it in reversed(own[:at]) if it.request and answers(lost.begin, it.request))
-    found = next(behind, None)
+        later = (own[place] for place in range(at, len(own)))
+        return next((it for it in later if it.kind == "U" and asked and answers(it.sent[:2].hex(), asked)), None)
+    # (no copy of what was asked before: there may be many losses in a long recording)
+    before = (own[place] for place in range(at - 1, -1, -1))
+    found = next((it for it in before if it.request and answers(lost.begin, it.request)), None)
     return found if found is not None and found.sent is None else None
 
 
