@@ -66,9 +66,9 @@ def _arguments() -> argparse.ArgumentParser:
 
 
 class _End:
-    """The end that a signal asks for. KeyboardInterrupt brings it at once, but while the unit serves the program looks for it: so
-    no line of the journal is lost. Further signals are passed over for two seconds. Then one ends the program whatever it
-    does, for the bus's driver may never return."""
+    """The end that a signal asks for. Before the unit serves, KeyboardInterrupt brings it at once; from then on the program looks
+    for it, so that no line of the journal is lost. Further signals are passed over for two seconds. Then one ends the program
+    whatever it does, for the bus's driver may never return."""
 
     def __init__(self) -> None:
         self.is_looked_for = False

@@ -86,7 +86,7 @@ class UnitBus:
     The unit's time is the machine's monotonic clock. Where a ConsecutiveFrame goes late, those behind it to the same tester go
     later, too: two are never nearer to each other than their separation time. FlowControl that comes while one waits is passed
     over, as any in the middle of a block. N_Bs runs from when the last frame went. If the machine's time of day is set back,
-    python-can's `recv` waits for as much longer: until a frame comes the unit sends nothing.
+    python-can's `recv` waits that much longer, and until a frame comes the unit sends nothing.
 
     If the bus doesn't accept a frame, the unit tries again for one second; then that is a fault of the bus. After a fault every
     call that reads or sets the unit raises it, except `journal`. A signal's handler may call it, too, in the middle of a call;
