@@ -170,7 +170,7 @@ impl<'a> Stamps<'a> {
         let seconds = late.seconds();
         let millis = late.millis();
         notes.push(format!(in alloc;
-            "lines whose stamps are less than one before: {count}, the first is line {line}, by {seconds}.{millis:03} s; LC_ALL=C sort -s -k1,1 sorts them"
+            "lines whose stamps are less than one before: {count}, the first is line {line}, by {seconds}.{millis:03} s; LC_ALL=C sort -s -k1.2,1n sorts them"
         )?)?;
         Ok(())
     }
