@@ -558,13 +558,12 @@ fn read_line(line: &[u8]) -> Option<Line<'_>> {
     })
 }
 
-/// What stands before the first space, or before CR.
+/// What stands before the first space, or before the CR that ends it.
 fn before_space(text: &[u8]) -> &[u8] {
-    let length = text
-        .iter()
-        .take_while(|c| **c != b' ' && **c != b'\r')
-        .count();
-    text.get(..length).unwrap_or(text)
+    match (parted(text, b' '), text) {
+        (Some((front, _)), _) | (None, [front @ .., b'\r']) => front,
+        (None, _) => text,
+    }
 }
 
 fn behind_spaces(text: &[u8]) -> &[u8] {

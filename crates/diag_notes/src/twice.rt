@@ -6,6 +6,9 @@ const MOST_OPEN: usize = 8;
 /// The fewest pairs that are told.
 const LEAST_PAIRS: u64 = 2;
 
+/// How many of ten frames must have their like, at least.
+const LEAST_OF_TEN: u64 = 9;
+
 /// A frame as its line tells it.
 #[derive(Clone, Copy, PartialEq, Eq)]
 pub struct Frame<'a> {
@@ -68,11 +71,8 @@ impl<'a> Twice<'a> {
     /// Takes out the frame that is like this one.
     fn taken_like(&mut self, frame: &Frame<'a>) -> Option<Frame<'a>> {
         for open in self.open.iter_mut() {
-            if let Some(found) = *open {
-                if found.is_like(frame) {
-                    *open = None;
-                    return Some(found);
-                }
+            if open.as_ref().is_some_and(|found| found.is_like(frame)) {
+                return open.take();
             }
         }
         None
@@ -99,6 +99,7 @@ impl<'a> Twice<'a> {
 
     fn are_pairs(&self) -> bool {
         let pairs = self.apart.saturating_add(self.equal);
-        pairs >= LEAST_PAIRS && pairs.saturating_mul(20) >= self.frames.saturating_mul(9)
+        let twice = pairs.saturating_mul(2);
+        pairs >= LEAST_PAIRS && twice.saturating_mul(10) >= self.frames.saturating_mul(LEAST_OF_TEN)
     }
 }
