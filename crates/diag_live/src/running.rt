@@ -1,12 +1,12 @@
 //! A live run: the config, then the bus as it goes.
 
-ghost use Rattle.std.specs.Prelude.{◌≡◌, ◌≢◌, ◌⊎◌, ◌<◌, Err, IfOk, IfErr, OnOk};
+ghost use Rattle.std.specs.Prelude.{◌≡◌, ◌≢◌, ◌⊎◌, ◌<◌, Err, IfOk, IfErr, IfSome, OnOk};
 ghost use Rattle.diag_live.specs.Devices.{TellsBothWrites, TellsHearing};
 ghost use Rattle.diag_live.specs.Pace.{Did, KeepsPace};
 ghost use Rattle.diag_live.specs.Serving.{CannotHear, HaltsWith, Turned};
 ghost use Rattle.diag_live.specs.Stops.{Lived, LivedWith, Stopped, StoppedWith};
 ghost use Rattle.diag_run.specs.Devices.{TellsConfig, fault_in};
-ghost use Rattle.diag_run.specs.Run.{DoneOf, EndsOf, TellsOf};
+ghost use Rattle.diag_run.specs.Run.{DoneOf, EndsOf};
 
 use crate::bench::{Bench, Heard};
 use crate::serving::Serving;
@@ -144,10 +144,10 @@ pub fn run_live_and_tell<C: Source, B: Bench, W: Target, R: Target>(
         (C.remaining config.old) (C.remaining config.new)
         (B.remaining bench.old) (B.remaining bench.new)
         (W.contents out.old) (W.contents out.new) (R.contents recorder.old) (R.contents recorder.new)) result }
-    ensures fault { TellsOf (StoppedWith B.remaining (C.remaining config.old) (C.remaining config.new)
+    ensures fault { EndsOf (λ came. IfSome came (StoppedWith B.remaining (C.remaining config.old) (C.remaining config.new)
         bench.old bench.new
-        (W.contents out.old) (W.contents out.new) (R.contents recorder.old) (R.contents recorder.new)) result }
-    ensures devices { EndsOf (λ came. TellsConfig C.failed C.sound config.old config.new came
+        (W.contents out.old) (W.contents out.new) (R.contents recorder.old) (R.contents recorder.new))
+        × TellsConfig C.failed C.sound config.old config.new came
         × TellsHearing B.story bench.old bench.new came
         × TellsBothWrites W.failed W.sound R.failed R.sound out.old out.new recorder.old recorder.new came) result }
     ensures flushed { DoneOf (λ _. W.flushed out.new × R.flushed recorder.new) result }

@@ -3,11 +3,7 @@ use Rattle.std.proofs.Common.{ℕ, Option, Some}
 use Rattle.diag_text.specs.declared.fault.RunFault.{RunFault}
 use Rattle.diag_run.specs.declared.file_run.Outcome.{Outcome}
 use Rattle.diag_run.specs.declared.file_run.Outcome.TheVariants.{Done, Fault}
-use Rattle.diag_run.specs.Run.{DoneOf, EndsOf, Tells, TellsOf}
-
-pub tells_of : (P : RunFault → Type 0) (fault : RunFault) (out : Outcome) → P fault → Tells fault out → TellsOf P out
-tells_of P fault (Done number) holds tells = tt
-tells_of P fault (Fault told number) holds tells = (fault, holds, tells)
+use Rattle.diag_run.specs.Run.{DoneOf, EndsOf, Tells}
 
 pub ends_of : (P : Option RunFault → Type 0) (fault : RunFault) (out : Outcome) → P (Some fault) → Tells fault out → EndsOf P out
 ends_of P fault (Done number) holds tells = absurd tells

@@ -281,11 +281,6 @@ Tells fault (outcome.Fault told number) =
     × (is_fixed fault ≡ true → IsSome told)
     × (number ≡ status fault)
 
--- where it ended by a fault, it was one of which P holds
-abbrev pub TellsOf : (RunFault → Type 0) → Outcome → Type 0
-TellsOf P (outcome.Done number) = Unit {0}
-TellsOf P (outcome.Fault told number) = (fault : RunFault) × P fault × Tells fault (outcome.Fault told number)
-
 -- it ended by this fault, or by none, and P holds of that
 abbrev pub EndsOf : (Option RunFault → Type 0) → Outcome → Type 0
 EndsOf P (outcome.Done number) = P None

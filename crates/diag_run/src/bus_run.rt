@@ -1,13 +1,13 @@
 //! A run of a whole bus's recording: the config and the capture in, what is due out, as it falls due.
 
-ghost use Rattle.std.specs.Prelude.{◌≡◌, ◌≢◌, ◌⊎◌, ◌+◌, ◌<◌, ◌≤◌, ◌^◌, [], length, take, Err, IfOk, IfErr, OnErr, OnOk};
+ghost use Rattle.std.specs.Prelude.{◌≡◌, ◌≢◌, ◌⊎◌, ◌+◌, ◌<◌, ◌≤◌, ◌^◌, [], length, take, Err, IfOk, IfErr, IfSome, OnErr, OnOk};
 ghost use Rattle.std.specs.Io.KnownBytes.{Consumes, IsAtEnd, Keeps};
 ghost use Rattle.diag_bus.specs.Bus.{TookLines};
 ghost use Rattle.diag_text.specs.Bytes.{Sends, Takes};
 ghost use Rattle.diag_run.specs.Capture.{Followed, Stops};
 ghost use Rattle.diag_run.specs.Capturing.{GoesOn, IsWritings, StopsWithin, fault_of, most_counted, FollowedFrom, StopsFrom};
 ghost use Rattle.diag_run.specs.Devices.{TellsBusReads, TellsConfig, TellsWrites, fault_in};
-ghost use Rattle.diag_run.specs.Run.{DoneOf, EndsOf, TellsOf};
+ghost use Rattle.diag_run.specs.Run.{DoneOf, EndsOf};
 ghost use Rattle.diag_run.specs.Wanted.{wanted};
 
 use crate::capture::{Capture, CaptureFault};
@@ -202,9 +202,9 @@ pub fn run_bus_and_tell<S: Ending, R: Source, W: Target>(
     ensures done { DoneOf (Followed (wanted S.written S.ends S.aim sink) (R.remaining config.old) (R.remaining config.new)
         (R.remaining capture.old) (R.remaining capture.new)
         (W.contents out.old) (W.contents out.new)) result }
-    ensures fault { TellsOf (Stops R.remaining (wanted S.written S.ends S.aim sink) config.old config.new
-        capture.old capture.new (W.contents out.old) (W.contents out.new)) result }
-    ensures devices { EndsOf (λ came. TellsConfig R.failed R.sound config.old config.new came
+    ensures fault { EndsOf (λ came. IfSome came (Stops R.remaining (wanted S.written S.ends S.aim sink) config.old config.new
+        capture.old capture.new (W.contents out.old) (W.contents out.new))
+        × TellsConfig R.failed R.sound config.old config.new came
         × TellsBusReads R.remaining R.failed R.sound capture.old capture.new came
         × TellsWrites W.failed W.sound out.old out.new came) result }
     ensures flushed { DoneOf (λ _. W.flushed out.new) result }

@@ -1,10 +1,10 @@
 //! A run over files: the config and the files in, one text out.
 
-ghost use Rattle.std.specs.Prelude.{◌≡◌, ◌≢◌, ℕ, List, length, IfOk, IfErr, OnOk, Some, Ok, Err};
+ghost use Rattle.std.specs.Prelude.{◌≡◌, ◌≢◌, ℕ, List, length, IfOk, IfErr, IfSome, OnOk, Some, Ok, Err};
 ghost use Rattle.std.specs.Io.KnownBytes.{Keeps};
 ghost use Rattle.diag_run.specs.Devices.{TellsConfig, TellsReads, TellsWrites, fault_in};
 ghost use Rattle.diag_run.specs.Files.{AreKnown, Fails, SaysSetup};
-ghost use Rattle.diag_run.specs.Run.{NamesAFile, ReadsConfigFirst, TextStops, WhereKnown, Writes, joined, wanted, read_of, FilesGive, ReadToEnd, ReadingStops, RunStops, GivesRun, Wrote, WroteFront, IsFaultOf, DoneOf, EndsOf, Tells, TellsOf, answered};
+ghost use Rattle.diag_run.specs.Run.{NamesAFile, ReadsConfigFirst, TextStops, WhereKnown, Writes, joined, wanted, read_of, FilesGive, ReadToEnd, ReadingStops, RunStops, GivesRun, Wrote, WroteFront, IsFaultOf, DoneOf, EndsOf, Tells, answered};
 
 use crate::answer::{played_text, read_texts, replayed_text, woven_text};
 use crate::files::read_config;
@@ -215,11 +215,11 @@ pub fn run_and_tell<T: Threads + Wait + Sync, R: Source, W: Target>(
         (λ said. Wrote job said (W.contents out.old) (W.contents out.new))) result }
     ensures reads { DoneOf (λ _. ReadToEnd R.remaining job config.old config.new files.old files.new
         (λ said. Wrote job said (W.contents out.old) (W.contents out.new))) result }
-    ensures fault { TellsOf (λ fault.
+    ensures fault { EndsOf (λ came. IfSome came (λ fault.
         IsFaultOf R.remaining job config.old files.old (W.contents out.old) (W.contents out.new) fault
         × RunStops R.remaining job config.old config.new files.old files.new
-        (W.contents out.old) (W.contents out.new) fault) result }
-    ensures devices { EndsOf (λ came. TellsConfig R.failed R.sound config.old config.new came
+        (W.contents out.old) (W.contents out.new) fault)
+        × TellsConfig R.failed R.sound config.old config.new came
         × TellsReads R.failed R.sound files.old files.new came
         × TellsWrites W.failed W.sound out.old out.new came) result }
     ensures flushed { DoneOf (λ _. W.flushed out.new) result }

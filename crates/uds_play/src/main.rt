@@ -1,7 +1,7 @@
 //! The program: words, files, one run, a status.
 #![tactic(auto)]
 
-ghost use Rattle.std.specs.Prelude.{◌≡◌, [], ◌∷◌, ℕ, List, map, false, IfOk, Some, Ok};
+ghost use Rattle.std.specs.Prelude.{◌≡◌, [], ◌∷◌, ℕ, List, map, false, IfOk, IfSome, Some, Ok};
 ghost use Rattle.std.specs.List.{concat};
 ghost use Rattle.diag_stored.specs.declared.TheConstants.{
   CONFIG as TheConfig,
@@ -12,7 +12,7 @@ ghost use Rattle.diag_run.specs.Files.{AreKnown};
 ghost use Rattle.diag_live.specs.Devices.{TellsBothWrites, TellsHearing};
 ghost use Rattle.diag_live.specs.Pace.{KeepsPace};
 ghost use Rattle.diag_live.specs.Stops.{Lived, Stopped};
-ghost use Rattle.diag_run.specs.Run.{DoneOf, EndsOf, GivesRun, TellsOf, read_of};
+ghost use Rattle.diag_run.specs.Run.{DoneOf, EndsOf, GivesRun, read_of};
 
 mod answer;
 mod command;
@@ -577,9 +577,9 @@ fn serve<B: Bench, W: Target, F: Target>(
     ensures done { DoneOf (λ _. Lived (KeepsPace B.story setup bench.old bench.new) setup
         (B.remaining bench.old) (B.remaining bench.new)
         (W.contents out.old) (W.contents out.new) (F.contents record.old) (F.contents record.new)) result }
-    ensures fault { TellsOf (Stopped setup (B.remaining bench.old) (B.remaining bench.new)
-        (W.contents out.old) (W.contents out.new) (F.contents record.old) (F.contents record.new)) result }
-    ensures devices { EndsOf (λ came. TellsHearing B.story bench.old bench.new came
+    ensures fault { EndsOf (λ came. IfSome came (Stopped setup (B.remaining bench.old) (B.remaining bench.new)
+        (W.contents out.old) (W.contents out.new) (F.contents record.old) (F.contents record.new))
+        × TellsHearing B.story bench.old bench.new came
         × TellsBothWrites W.failed W.sound F.failed F.sound out.old out.new record.old record.new came) result }
     ensures flushed { DoneOf (λ _. W.flushed out.new × F.flushed record.new) result }
 {

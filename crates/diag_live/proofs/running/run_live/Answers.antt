@@ -1,4 +1,4 @@
-use Rattle.std.proofs.Common.{◌≡◌, Err, None, Some, ap, arith, inl, inr, refl}
+use Rattle.std.proofs.Common.{◌≡◌, Err, None, ap, arith, inl, inr, refl}
 use Rattle.std.proofs.KnownBytes.{Keeps-refl}
 use Rattle.std.proofs.lemmas.Result.{IfErr-weaker, on_ok_weaker}
 use Rattle.diag_text.specs.declared.fault.RunFault.TheVariants.{Read, Write}
