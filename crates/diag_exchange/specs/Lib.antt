@@ -4,5 +4,6 @@ pub mod Exchanges
 pub mod Meaning
 pub mod Over
 pub mod OverKind
+pub mod Spare
 pub mod Streaming
 pub mod Taking

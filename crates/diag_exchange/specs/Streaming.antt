@@ -94,7 +94,7 @@ request_in lent = record {
   expected = record { reply = option_copied lent.reply; varies = None; own = lent.own; ignored = false };
 }
 
--- the same of another request
+-- an exchange of another request, else as it was
 abbrev pub with_request : AskedRequest → Open → Open
 with_request request e = record e { request = request }
 

@@ -2,6 +2,7 @@
 
 ghost use Rattle.std.specs.Prelude.{◌≡◌, ◌≤◌, length, option_copied, IfOk, IsSome, OnErr};
 ghost use Rattle.diag_expect.specs.Entered.{Model};
+ghost use Rattle.diag_exchange.specs.Spare.{one_less};
 ghost use Rattle.diag_exchange.specs.Streaming.{opened};
 ghost use Rattle.diag_expect.specs.Expecting.{asked_at, entered_of, expected_of};
 
@@ -33,7 +34,7 @@ impl Entered {
     /// A request of a tester with its reply, by the ECU before it. It goes into a spare box, where there is one.
     ///
     /// # Errors
-    /// `AllocError` where memory is refused.
+    /// `AllocError` where memory is refused; the box is gone then.
     #[inline(always)]
     pub fn of(
         spare: &mut Spare,
@@ -42,8 +43,9 @@ impl Entered {
         request: &Request,
         reply: Option<&Message>,
     ) -> Result<Entered, AllocError>
-        ensures { IfOk result (λ entered. entered
+        ensures entered { IfOk result (λ entered. entered
             ≡ entered_of ecu.now who request.now (option_copied reply.entry)) }
+        ensures spare { spare.new ≡ one_less spare.old }
     {
         let items = ecu.template_for(who, request.message.bytes());
         let mut kept = spare.open(&TakenRequest {

@@ -33,7 +33,7 @@ returns-clause-taken c =
     let is : who ≡ i + 1 = c.index-index.ensures.from_one in
     on_ok_weaker c.enter.result (λ entered. λ setup lines K ecu taken.
     let own_is = subst (λ t. IsTester setup lines K t own) (sym is) (taken.each i own here) in
-    let asked = entered ∙ ap (λ (x : Entered). own.entered.items ++ x ∷ []) c.in_ok-entered.ensures in
+    let asked = entered ∙ ap (λ (x : Entered). own.entered.items ++ x ∷ []) c.in_ok-entered.ensures.entered in
     let new_is = own_tester setup lines K who request reply own new c.args.ecu.now ecu own_is c.enter.ensures.listener c.enter.ensures.counts asked in
     record {
       count = taken.count;
