@@ -1,5 +1,6 @@
 -- What a status means.
 use Rattle.std.proofs.Common.{◌≡◌, ◌≤◌, ◌<◌, ◌⊎◌, inl, inr, ℕ, zero, suc, ◌+◌, Bool, true, false, List, [], ◌∷◌, length, refl, ap, sym, ◌∙◌, arith}
+use Rattle.std.proofs.lemmas.Bool.{false_from_ne_true, not-false, not-true, or_from, or_left, or_parts, or_right}
 use Rattle.std.proofs.lemmas.List.Elements.{All-cons, All-head, All-nil, All-tail}
 use Rattle.std.proofs.lemmas.List.Folds.{Any-from_list_any, list_any-append, list_any-from_Any}
 use Rattle.std.specs.List.{All, Any, flat_map, list_any}
@@ -12,7 +13,6 @@ use Rattle.diag_exchange.specs.Agreeing.{agrees, is_compared}
 use Rattle.diag_exchange.specs.Meaning.{Means}
 use Rattle.diag_exchange.specs.declared.happening.Expected.{Expected}
 use Rattle.diag_exchange.specs.Over.{Over}
-use Rattle.diag_exchange.proofs.Lists.{or_left, or_right}
 use Rattle.diag_exchange.proofs.Meanings.{meant, means}
 use Rattle.diag_judge.specs.Judging.{differs}
 use Rattle.diag_compare.specs.Compare.{all_exchanges, any_differs, exchanges, status}
@@ -28,18 +28,6 @@ least (suc a) (suc t) low = elim (least a t (omega (arith, low))) [
   | inl e ↦ inl (ap suc e)
   | inr l ↦ inr (omega (arith, l))
 ]
-
-or_first : (a b : Bool) → a ≡ true → (a || b) ≡ true
-or_first true b e = refl
-or_first false b e = cc
-
-or_second : (a b : Bool) → b ≡ true → (a || b) ≡ true
-or_second true b e = refl
-or_second false b e = e
-
-false_or : (b : Bool) → (b ≡ true → ⊥) → b ≡ false
-false_or true never = absurd (never refl)
-false_or false never = refl
 
 not_both : (b : Bool) → b ≡ true → b ≡ false → ⊥
 not_both true e f = cc
@@ -72,42 +60,30 @@ module _ (p : Over → Bool) (f : ℕ → List Over) where
       let others = flat_map f (counted_from (suc a) n) in
       list_any-append p (f a) others
       ∙ elim (least a t low) [
-        | inl same ↦ or_first (list_any p (f a)) (list_any p others) (ap (λ u. list_any p (f u)) same ∙ e)
-        | inr later ↦ or_second (list_any p (f a)) (list_any p others) (is_found (suc a) n t later (omega (arith, high)) e)
+        | inl same ↦ or_left (list_any p (f a)) (list_any p others) (ap (λ u. list_any p (f u)) same ∙ e)
+        | inr later ↦ or_right (list_any p (f a)) (list_any p others) (is_found (suc a) n t later (omega (arith, high)) e)
       ]
 
 -- ---- an exchange
 
 differs_not : (o : Over) → differs o ≡ true → Means o → ⊥
-differs_not o e m = not_both (agrees o) (meant o m) (is_not (agrees o) e)
-  where
-    is_not : (b : Bool) → not b ≡ true → b ≡ false
-    is_not true e = cc
-    is_not false e = refl
+differs_not o e m = not_both (agrees o) (meant o m) (not-true (agrees o) e)
 
 not_differs : (o : Over) → (Means o → ⊥) → differs o ≡ true
-not_differs o never = ap not (false_or (agrees o) (λ e. never (means o e)))
+not_differs o never = ap not (false_from_ne_true (agrees o) (λ e. never (means o e)))
 
 no_difference : (o : Over) → differs o ≡ false → Means o
-no_difference o e = means o (is_so (agrees o) e)
-  where
-    is_so : (b : Bool) → not b ≡ false → b ≡ true
-    is_so true e = refl
-    is_so false e = cc
+no_difference o e = means o (not-false (agrees o) e)
 
 all_mean : (os : List Over) → list_any differs os ≡ false → All Means os
 all_mean [] e = All-nil Means
 all_mean (o ∷ os) e =
-    All-cons Means o os (no_difference o (or_left (differs o) (list_any differs os) e)) (all_mean os (or_right (differs o) (list_any differs os) e))
+    All-cons Means o os (no_difference o (or_parts (differs o) (list_any differs os) e).0) (all_mean os (or_parts (differs o) (list_any differs os) e).1)
 
 none_differs : (os : List Over) → All Means os → list_any differs os ≡ false
 none_differs [] h = refl
 none_differs (o ∷ os) h =
-    neither (differs o) (list_any differs os) (false_or (differs o) (λ e. differs_not o e (All-head Means o os h))) (none_differs os (All-tail Means o os h))
-  where
-    neither : (a b : Bool) → a ≡ false → b ≡ false → (a || b) ≡ false
-    neither true b e f = cc
-    neither false b e f = f
+    or_from (differs o) (list_any differs os) (false_from_ne_true (differs o) (λ e. differs_not o e (All-head Means o os h))) (none_differs os (All-tail Means o os h))
 
 any_to : (P Q : Over → Type 0) → ((o : Over) → P o → Q o) → (os : List Over) → Any P os → Any Q os
 any_to P Q go os h = (h.0, h.1, h.2, h.3, go h.1 h.4)
@@ -155,11 +131,11 @@ module _ (expects : State → Entry → Expected) (setup : RawSetup) (lines : Li
       is_found is_compared of 1 many h.tester h.number.0 (omega (arith, h.number.1)) (list_any-from_Any is_compared (of h.tester) h.compared)
 
   agree_to : some_differs ≡ false → AllAgree expects setup lines
-  agree_to none = λ t number. all_mean (of t) (false_or (list_any differs (of t)) (λ some.
+  agree_to none = λ t number. all_mean (of t) (false_from_ne_true (list_any differs (of t)) (λ some.
       not_both some_differs (is_found differs of 1 many t number.0 (omega (arith, number.1)) some) none))
 
   agree_from : AllAgree expects setup lines → some_differs ≡ false
-  agree_from all = false_or some_differs (λ some.
+  agree_from all = false_from_ne_true some_differs (λ some.
       let found = found_in differs of 1 many some in
       not_both (list_any differs (of found.at)) found.some (none_differs (of found.at) (all found.at (found.low, omega (arith, found.high)))))
 

@@ -1,6 +1,6 @@
 -- What it means that an exchange agrees.
-use Rattle.std.proofs.Common.{◌≡◌, ◌≤◌, ◌<◌, ◌⊎◌, inl, inr, ℕ, zero, suc, ◌+◌, Bool, true, false, Option, Some, None, List, [], ◌∷◌, ◌++◌, length, take, drop, refl, ap, subst, sym, ◌∙◌, arith, ap₂, eq-eqb, ne_eqb}
-use Rattle.std.proofs.lemmas.Bool.{eqb-true}
+use Rattle.std.proofs.Common.{◌≡◌, ◌≤◌, ◌<◌, ◌⊎◌, inl, inr, ℕ, zero, suc, ◌+◌, Bool, true, false, Option, Some, None, List, [], ◌∷◌, ◌++◌, length, take, drop, refl, ap, subst, sym, ◌∙◌, arith, eq-eqb, ne_eqb}
+use Rattle.std.proofs.lemmas.Bool.{and_from, eqb-true, or_cases, or_left, or_right}
 use Rattle.std.proofs.lemmas.List.Sorted.{IsPermutation-cons, IsPermutation-middle, IsPermutation-refl, IsPermutation-sym, IsPermutation-trans, sum_by-IsPermutation}
 use Rattle.std.proofs.lemmas.Slice.Eq.{bytes_eq-Decides}
 use Rattle.std.specs.List.Sorted.{IsPermutation}
@@ -14,10 +14,6 @@ use Rattle.diag_exchange.specs.declared.happening.Heard.{Heard}
 use Rattle.diag_exchange.specs.Over.{Over, Exchange, Unasked}
 use Rattle.diag_exchange.proofs.Lists.{and_true, not_true}
 use Rattle.diag_exchange.proofs.Sorted.{all_often, least_itself, often_all, one_if, times_more}
-
-or_cases : (a b : Bool) → (a || b) ≡ true → (a ≡ true) ⊎ (b ≡ true)
-or_cases true b e = inl refl
-or_cases false b e = inr e
 
 -- ---- bytes that vary
 
@@ -128,27 +124,16 @@ means (Unasked heard) e = cc
 
 -- ---- and the other way round
 
-or_first : (a b : Bool) → a ≡ true → (a || b) ≡ true
-or_first true b e = refl
-or_first false b e = cc
-
-or_second : (a b : Bool) → b ≡ true → (a || b) ≡ true
-or_second true b e = refl
-or_second false b e = e
-
-both_true : (a b : Bool) → a ≡ true → b ≡ true → (a && b) ≡ true
-both_true a b e f = ap₂ (λ (x y : Bool). x && y) e f
-
 byte_same : (mark x y : ℕ) → (mark ≡ 0 → x ≡ y) → same_byte mark x y ≡ true
 byte_same zero x y same = eq-eqb x y (same refl)
-byte_same (suc mark) x y same = or_first (not (suc mark == 0)) (x == y) (ap not (ne_eqb (suc mark) 0 (λ e. absurd (omega (arith, e)))))
+byte_same (suc mark) x y same = or_left (not (suc mark == 0)) (x == y) (ap not (ne_eqb (suc mark) 0 (λ e. absurd (omega (arith, e)))))
 
 plain_same : (xs ys : List ℕ) → length xs ≡ length ys → ((i : ℕ) → i < length ys → slice_index xs i ≡ slice_index ys i) → same_but [] xs ys ≡ true
 plain_same [] [] many each = refl
 plain_same [] (y ∷ ys) many each = absurd (omega (arith, many))
 plain_same (x ∷ xs) [] many each = absurd (omega (arith, many))
 plain_same (x ∷ xs) (y ∷ ys) many each =
-    both_true (x == y) (same_but [] xs ys) (eq-eqb x y (each zero (omega arith)))
+    and_from (x == y) (same_but [] xs ys) (eq-eqb x y (each zero (omega arith)))
     (plain_same xs ys (omega (arith, many)) (λ i l. each (suc i) (omega (arith, l))))
 
 bytes_same : (ms xs ys : List ℕ) → SameBytes ms xs ys → same_but ms xs ys ≡ true
@@ -157,7 +142,7 @@ bytes_same (m ∷ ms) [] [] s = refl
 bytes_same (m ∷ ms) [] (y ∷ ys) s = absurd (omega (arith, s.as_many))
 bytes_same (m ∷ ms) (x ∷ xs) [] s = absurd (omega (arith, s.as_many))
 bytes_same (m ∷ ms) (x ∷ xs) (y ∷ ys) s =
-    both_true (same_byte m x y) (same_but ms xs ys) (byte_same m x y (s.each zero (omega arith)))
+    and_from (same_byte m x y) (same_but ms xs ys) (byte_same m x y (s.each zero (omega arith)))
     (bytes_same ms xs ys (record { as_many = omega (arith, s.as_many); each = λ i l z. s.each (suc i) (omega (arith, l)) z }))
 
 list_same : (expected : Expected) (sent reply : List ℕ) → SameList expected sent reply → (expected.own && same_in_any_order sent reply) ≡ true
@@ -165,28 +150,28 @@ list_same expected sent reply s =
     let rs = records (drop 3 sent) in
     let qs = records (drop 3 reply) in
     let often = often_all rs qs (λ k. sym (sum_by-IsPermutation (λ x. one_if (bytes_eq k x)) rs qs s.moved)) in
-    both_true expected.own (same_in_any_order sent reply) s.own
-    (both_true (lists_records reply && bytes_eq (take 3 sent) (take 3 reply)) (same_records rs qs)
-    (both_true (lists_records reply) (bytes_eq (take 3 sent) (take 3 reply)) s.lists ((bytes_eq-Decides (take 3 sent) (take 3 reply)).1 s.head)) often)
+    and_from expected.own (same_in_any_order sent reply) s.own
+    (and_from (lists_records reply && bytes_eq (take 3 sent) (take 3 reply)) (same_records rs qs)
+    (and_from (lists_records reply) (bytes_eq (take 3 sent) (take 3 reply)) s.lists ((bytes_eq-Decides (take 3 sent) (take 3 reply)).1 s.head)) often)
 
 reply_same : (expected : Expected) (sent reply : List ℕ) → SameBytes (marks expected.varies) sent reply ⊎ SameList expected sent reply
     → same_reply expected sent reply ≡ true
 reply_same expected sent reply (inl a) =
-    or_first (same_but (marks expected.varies) sent reply) (expected.own && same_in_any_order sent reply) (bytes_same (marks expected.varies) sent reply a)
+    or_left (same_but (marks expected.varies) sent reply) (expected.own && same_in_any_order sent reply) (bytes_same (marks expected.varies) sent reply a)
 reply_same expected sent reply (inr b) =
-    or_second (same_but (marks expected.varies) sent reply) (expected.own && same_in_any_order sent reply) (list_same expected sent reply b)
+    or_right (same_but (marks expected.varies) sent reply) (expected.own && same_in_any_order sent reply) (list_same expected sent reply b)
 
 answer_meant : (expected : Expected) (sent : Option Heard) (reply : Option (List ℕ)) → IsAnswer expected sent reply → answers_as expected sent reply ≡ true
 answer_meant expected None None h = refl
 answer_meant expected (Some sent) None h = absurd h
 answer_meant expected None (Some reply) h = h
 answer_meant expected (Some sent) (Some reply) h =
-    both_true (not (says_pending reply)) (same_reply expected sent.bytes reply) (ap not h.0) (reply_same expected sent.bytes reply h.1)
+    and_from (not (says_pending reply)) (same_reply expected sent.bytes reply) (ap not h.0) (reply_same expected sent.bytes reply h.1)
 
 exchange_meant : (ignored : Bool) (expected : Expected) (sent : Option Heard) (reply : Option (List ℕ)) → (ignored ≡ true) ⊎ IsAnswer expected sent reply
     → (ignored || answers_as expected sent reply) ≡ true
-exchange_meant ignored expected sent reply (inl a) = or_first ignored (answers_as expected sent reply) a
-exchange_meant ignored expected sent reply (inr b) = or_second ignored (answers_as expected sent reply) (answer_meant expected sent reply b)
+exchange_meant ignored expected sent reply (inl a) = or_left ignored (answers_as expected sent reply) a
+exchange_meant ignored expected sent reply (inr b) = or_right ignored (answers_as expected sent reply) (answer_meant expected sent reply b)
 
 pub meant : (o : Over) → Means o → agrees o ≡ true
 meant (Exchange request pendings answer) h = exchange_meant request.expected.ignored request.expected answer request.expected.reply h
