@@ -1,5 +1,5 @@
 -- How an exchange is told.
-use Rattle.std.specs.Prelude.{ℕ, ◌==◌, codes, Bool, if◌then◌else◌, List, [], ◌∷◌, ◌++◌, Option, Some, None}
+use Rattle.std.specs.Prelude.{ℕ, ◌+◌, ◌==◌, codes, Bool, if◌then◌else◌, List, [], ◌∷◌, ◌++◌, length, Option, Some, None}
 use Rattle.std.specs.Fmt.{decimal}
 use Rattle.hex.specs.Hex.{encode_upper}
 use Rattle.diag_can.specs.Reply.{stamp_digits}
@@ -81,3 +81,7 @@ told_text name moment same o = parted (
     ∷ time_text (waited o)
     ∷ decimal (pendings_told o)
     ∷ []) ++ codes "\n"
+
+-- the room that is made for it: its name and its messages, and more bytes than the rest may have
+abbrev pub told_room : List ℕ → Bool → Over → ℕ
+told_room name same o = length name + length (request_text o) + length (sent_text o) + length (expected_text same o) + 128

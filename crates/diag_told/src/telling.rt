@@ -1,10 +1,10 @@
 //! The line of an exchange.
 
-ghost use Rattle.std.specs.Prelude.{◌≡◌, ◌<◌, ◌≤◌, ◌+◌, ◌*◌, ◌/◌, ◌%◌, ◌^◌, ◌∷◌, [], ◌++◌, codes, decimal, length, drop, option_copied, vec_len, vec_capacity, IfSome, OnOk, OnErr};
+ghost use Rattle.std.specs.Prelude.{◌≡◌, ◌<◌, ◌≤◌, ◌+◌, ◌*◌, ◌/◌, ◌%◌, ◌^◌, ◌∷◌, [], ◌++◌, codes, decimal, length, drop, option_copied, vec_len, vec_capacity, IfSome, IfNone, OnOk, OnErr};
 ghost use Rattle.hex.specs.Hex.{encode_upper};
 ghost use Rattle.diag_can.specs.Reply.{stamp_digits};
 ghost use Rattle.diag_exchange.specs.Agreeing.{marks, waited};
-ghost use Rattle.diag_told.specs.Told.{byte_text, bytes_text, capture_line_told, expected_text, kind_text, message_text, pendings_told, reply_text, request_text, sent_text, time_text, told_text};
+ghost use Rattle.diag_told.specs.Told.{byte_text, bytes_text, capture_line_told, expected_text, kind_text, message_text, pendings_told, reply_text, request_text, sent_text, time_text, told_room, told_text};
 
 use diag_can::{KeptStamp, add_bytes, add_decimal, add_hex, add_late_digits, hex_digits};
 use diag_exchange::{CaptureLine, Expected, Over, OverKind};
@@ -19,7 +19,7 @@ const LINE_ROOM: usize = 128;
 /// it agrees. Its stamp is kept for the next.
 ///
 /// # Errors
-/// `AllocError` where memory is refused; the text stays as it was.
+/// `AllocError` where the text has no room for a line of so many bytes, and memory is refused; it stays as it was.
 pub fn tell(
     text: &mut Vec<u8>,
     last: &mut KeptStamp,
@@ -30,6 +30,7 @@ pub fn tell(
 ) -> Result<(), AllocError>
     ensures ok { OnOk result (text.new.items ≡ text.old.items ++ told_text name.now moment same over.now) }
     ensures err { OnErr result (text.new.items ≡ text.old.items) }
+    ensures full { OnErr result (vec_capacity text.old < vec_len text.old + told_room name.now same over.now) }
 {
     let room = line_room(name, over, same).ok_or(AllocError)?;
     text.reserve(room)?;
@@ -46,8 +47,8 @@ pub fn tell(
 /// As many bytes as a line may have, where that is a number.
 #[inline(always)]
 fn line_room(name: &[u8], over: &Over, same: bool) -> Option<usize>
-    ensures { IfSome result (λ room. room ≡ length name.now + length (request_text over.now)
-        + length (sent_text over.now) + length (expected_text same over.now) + 128) }
+    ensures room { IfSome result (λ room. room ≡ told_room name.now same over.now) }
+    ensures many { IfNone result (2 ^ 64 ≤ told_room name.now same over.now) }
 {
     let messages = count_of(request(over)) + count_of(sent(over)) + expected_count(over, same);
     name.len().checked_add(messages + LINE_ROOM)
