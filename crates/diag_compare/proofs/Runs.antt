@@ -1,6 +1,6 @@
 -- The exchanges of a tester beside the run.
 use Rattle.std.proofs.Common.{◌≡◌, ◌⊎◌, ℕ, Bool, true, false, List, [], ◌∷◌, ◌++◌, map, refl, ap, subst, sym}
-use Rattle.std.proofs.lemmas.List.Elements.{All-cons, All-filter, All-head, All-nil, All-tail, All-weaker}
+use Rattle.std.proofs.lemmas.List.Elements.{All-cons, All-filter, All-head, All-map, All-nil, All-tail, All-weaker}
 use Rattle.std.proofs.lemmas.List.Sorted.{All-permutation, IsPermutation-sym}
 use Rattle.std.specs.List.{All, AllZip, filter, flat_map}
 use Rattle.std.specs.Prelude.{if◌then◌else◌}
@@ -101,10 +101,6 @@ of_map : (cs : List Course) → All Means (map exchange cs) → AllMean cs
 of_map [] h = All-nil (λ c. Means (exchange c))
 of_map (c ∷ cs) h = All-cons (λ c. Means (exchange c)) c cs (All-head Means (exchange c) (map exchange cs) h) (of_map cs (All-tail Means (exchange c) (map exchange cs) h))
 
-to_map : (cs : List Course) → AllMean cs → All Means (map exchange cs)
-to_map [] h = All-nil Means
-to_map (c ∷ cs) h = All-cons Means (exchange c) (map exchange cs) (All-head (λ c. Means (exchange c)) c cs h) (to_map cs (All-tail (λ c. Means (exchange c)) c cs h))
-
 unfiltered_one : (o : Over) (os : List Over) (b : Bool) → b ≡ true → (All Means (filter is_exchange os) → All Means os)
     → All Means (if b then o ∷ filter is_exchange os else filter is_exchange os) → All Means (o ∷ os)
 unfiltered_one o os true is rest h = All-cons Means o os (All-head Means o (filter is_exchange os) h) (rest (All-tail Means o (filter is_exchange os) h))
@@ -138,4 +134,4 @@ module _ (setup : RawSetup) (lines : List (List ℕ)) (t : ℕ) where
   pub answers_agree : AnswersRun setup lines t → TesterAgrees (expects setup) setup lines t
   answers_agree h = unfiltered told h.asked
       (All-permutation Means (map exchange asked) (filter is_exchange told) (told_once (happenings (expects setup) setup t lines))
-      (to_map asked (mean setup entries asked (asked_are (expects setup) setup t lines) h.answered)))
+      (All-map Means exchange asked (mean setup entries asked (asked_are (expects setup) setup t lines) h.answered)))

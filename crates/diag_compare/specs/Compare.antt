@@ -69,7 +69,7 @@ module _ (expects : State → Entry → Expected) (setup : RawSetup) where
   abbrev pub any_differs : List (List ℕ) → Bool
   any_differs lines = list_any differs (all_exchanges lines)
 
-  -- the unit has sent nothing that is compared
+  -- nothing differs, and the unit has sent nothing that is compared
   abbrev pub compares_nothing : List (List ℕ) → Bool
   compares_nothing lines = not (any_differs lines) && not (list_any is_compared (all_exchanges lines))
 

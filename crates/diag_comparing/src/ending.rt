@@ -124,9 +124,9 @@ fn status(counts: &[Counts]) -> u8
 }
 
 impl ExchangeLines {
-    /// Where the recording ends here: adds the lines of the exchanges that aren't over, those of the testers, and where
-    /// nothing was compared a line that says so. The status is 0 where all exchanges agree, 8 where one differs, and 9 where
-    /// nothing was compared.
+    /// Where the recording ends here: adds the lines of the exchanges that aren't over, those of the testers, and with status 9
+    /// a line that says that nothing was compared. The status is 8 where an exchange differs; where all agree it is 0, and 9
+    /// where nothing was compared.
     ///
     /// # Errors
     /// `AllocError` where memory is refused: the text is as it was.
