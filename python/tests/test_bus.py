@@ -576,7 +576,7 @@ class ProgramTests(unittest.TestCase):
     def test_a_journal_that_can_not_be_written(self) -> None:
         def script() -> Iterator[None]:
             resource.setrlimit(resource.RLIMIT_FSIZE, (20, most))
-            while True:
+            for _ in range(9):
                 tester.ask()
                 yield tester.hear()
 
