@@ -29,8 +29,15 @@ use Rattle.diag_text.specs.declared.fault.RunFault.{RunFault}
 use Rattle.diag_text.specs.declared.fault.RunFault.TheVariants.{Files, JournalLine, Memory, JournalFull, Read, Write, Differs}
 use Rattle.diag_run.specs.declared.file_run.Outcome.{Outcome}
 use Rattle.diag_run.specs.declared.file_run.Outcome.TheVariants as outcome
+use Rattle.diag_run.specs.declared.alone_run.Alone.{Alone}
+use Rattle.diag_run.specs.declared.alone_run.Alone.TheVariants as alone
 use Rattle.diag_run.specs.declared.file_run.Job.{Job}
 use Rattle.diag_run.specs.declared.file_run.Job.TheVariants.{Serial, Play, Replay}
+
+-- what needs no thread of its own, as a job
+abbrev pub job_of : Alone → Job
+job_of (alone.Serial only_journal timing) = Serial only_journal timing
+job_of alone.Replay = Replay
 
 -- ---- what is read
 

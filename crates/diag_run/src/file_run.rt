@@ -40,7 +40,7 @@ impl Job {
 
 /// Reads the config, and counts the files.
 #[tactic(auto, unfolding(crate::specs::Run::read_of))]
-fn read_counted<R: Source>(
+pub(crate) fn read_counted<R: Source>(
     alloc: Global,
     job: Job,
     config: &mut R,
@@ -126,7 +126,10 @@ pub fn run_text<T: Threads + Wait + Sync, R: Source>(
 }
 
 /// Writes the text that was made, or answers why none was.
-fn written<W: Target>(out: &mut W, made: Result<Vec<Vec<u8>>, RunFault>) -> Result<(), RunFault>
+pub(crate) fn written<W: Target>(
+    out: &mut W,
+    made: Result<Vec<Vec<u8>>, RunFault>,
+) -> Result<(), RunFault>
     ensures writes { Writes (answered made) (W.contents out.old) (W.contents out.new) result }
     ensures tells { made ≢ Err RunFault.Write
         → TellsWrites W.failed W.sound out.old out.new (fault_in result) }

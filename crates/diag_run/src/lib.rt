@@ -1,6 +1,7 @@
 //! A run of the program: files in, text out.
 #![tactic(auto)]
 
+mod alone_run;
 mod answer;
 mod bus_run;
 mod capture;
@@ -14,6 +15,7 @@ mod playing;
 mod replies;
 mod serial;
 
+pub use alone_run::{Alone, run_alone};
 pub use bus_run::{run_bus, run_bus_and_tell, run_fault};
 pub use capture::{Capture, CaptureFault};
 pub use ending::Ending;

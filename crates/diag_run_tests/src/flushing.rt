@@ -14,16 +14,16 @@ use std::thread::Threads;
 
 /// A writer that takes all. Its flush at `fails_at`, from 1, fails.
 #[derive(Drop)]
-struct Flushed {
+pub struct Flushed {
     /// What it took.
-    taken: Vec<u8>,
+    pub taken: Vec<u8>,
     flushes: usize,
     fails_at: usize,
 }
 
 impl Flushed {
     /// A writer with room for a run's text.
-    fn failing(alloc: Global, fails_at: usize) -> Result<Flushed, AllocError> {
+    pub fn failing(alloc: Global, fails_at: usize) -> Result<Flushed, AllocError> {
         Ok(Flushed {
             taken: Vec::with_capacity(alloc, 4096)?,
             flushes: 0,

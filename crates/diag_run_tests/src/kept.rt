@@ -1,11 +1,14 @@
-//! A serial play that is kept, with its texts: the program keeps no such play.
+//! A serial play that is kept, with its texts, and runs that take no handles: the program keeps no such play, and makes its
+//! runs with threads.
 
-use crate::ending::{Trouble, is_whole};
+use crate::ending::{Trouble, holds, is_whole};
+use crate::flushing::Flushed;
 use diag_can::{Log, LogFault, Timing, read_log};
 use diag_desk::StepFault;
+use diag_run::{Alone, run_alone};
 use diag_setup::Setup;
-use diag_stored::{END, LOG_A, LOG_B, PLAYED, two_testers};
-use diag_text::{play_text, replay_text};
+use diag_stored::{CONFIG, END, LOG_A, LOG_B, PLAYED, two_testers};
+use diag_text::{RunFault, play_text, replay_text};
 use diag_world::{Played, serial};
 use std::alloc::{AllocError, Global};
 
@@ -74,4 +77,37 @@ fn a_kept_play_is_told(rt: HostRuntime) -> Result<(), Trouble> {
     } else {
         Err(Trouble::Wrong)
     }
+}
+
+/// Whether a run of these files that takes no handles writes this.
+fn writes(
+    alloc: Global,
+    job: Alone,
+    files: &[&'static str],
+    text: [&str; 2],
+) -> Result<bool, AllocError> {
+    let mut readers = Vec::with_capacity(alloc, 2)?;
+    for file in files {
+        readers.push(file.as_bytes())?;
+    }
+    let mut config = CONFIG.as_bytes();
+    let mut out = Flushed::failing(alloc, 0)?;
+    match run_alone(alloc, job, &mut config, readers.as_mut_slice(), &mut out) {
+        Ok(()) => Ok(is_whole(out.taken.as_slice(), text)),
+        Err(RunFault::Memory | RunFault::Write) => Err(AllocError),
+        Err(_) => Ok(false),
+    }
+}
+
+/// A play and a replay are run with no handle.
+#[test]
+fn runs_take_no_handles(rt: HostRuntime) -> Result<(), Trouble> {
+    let alloc = rt.alloc();
+    let play = Alone::Serial {
+        only_journal: false,
+        timing: Timing::Lines,
+    };
+    holds(writes(alloc, play, &[LOG_A, LOG_B], [PLAYED, END]))?;
+    let journal = "diag-journal 1\n1 P 1083 -\n";
+    holds(writes(alloc, Alone::Replay, &[journal], ["entries 1\n", END]))
 }
